@@ -1,0 +1,50 @@
+-- The number and the value tell a refusal from every other. Assumes nothing.
+use mathlib.Core.Path.{_≡_, refl}
+use Prim.Native.Nat.{ℕ}
+use lib.Dec.{eqb}
+use Rattle.refusal.specs.Pick.{pick}
+use Rattle.refusal.specs.Refusal.{numberOf, valueOf}
+use Rattle.refusal.specs.declared.Refusal.{Refusal}
+use Rattle.refusal.specs.declared.Refusal.the-variants.{BadState, OutOfOrder, TooLarge, NoRoom, BadMark, ShortEntry, CutEntry, NoEntries, IdsUsedUp, BufferSmall, BelowStart, OutsideWindow, BadBatch, Overlap, NotAscending, ValueTooLarge}
+
+-- the refusal with a number and a value
+fromPaper : ℕ → ℕ → Refusal
+fromPaper n v =
+    pick (eqb n 1) BadState (
+    pick (eqb n 2) OutOfOrder (
+    pick (eqb n 3) TooLarge (
+    pick (eqb n 4) NoRoom (
+    pick (eqb n 5) (BadMark v) (
+    pick (eqb n 6) (ShortEntry v) (
+    pick (eqb n 7) (CutEntry v) (
+    pick (eqb n 8) (NoEntries v) (
+    pick (eqb n 9) IdsUsedUp (
+    pick (eqb n 10) (BufferSmall v) (
+    pick (eqb n 11) BelowStart (
+    pick (eqb n 12) OutsideWindow (
+    pick (eqb n 13) BadBatch (
+    pick (eqb n 14) (Overlap v) (
+    pick (eqb n 15) (NotAscending v) (
+    ValueTooLarge)))))))))))))))
+
+back : (r : Refusal) → fromPaper (numberOf r) (valueOf r) ≡ r
+unfolding fromPaper
+back BadState = refl
+back OutOfOrder = refl
+back TooLarge = refl
+back NoRoom = refl
+back (BadMark page) = refl
+back (ShortEntry page) = refl
+back (CutEntry page) = refl
+back (NoEntries page) = refl
+back IdsUsedUp = refl
+back (BufferSmall needed) = refl
+back BelowStart = refl
+back OutsideWindow = refl
+back BadBatch = refl
+back (Overlap page) = refl
+back (NotAscending page) = refl
+back ValueTooLarge = refl
+
+pub refusal-unique : (r s : Refusal) → numberOf r ≡ numberOf s → valueOf r ≡ valueOf s → r ≡ s
+refusal-unique r s n v = cc (back r, back s)

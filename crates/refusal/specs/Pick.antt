@@ -1,0 +1,6 @@
+-- The choice between two answers that a test makes, for every definition that goes by tests on numbers.
+use mathlib.Core.Bool.{Bool, true, false}
+
+abbrev pub pick : {A : Type 0} → Bool → A → A → A
+pick true a b = a
+pick false a b = b
