@@ -1,0 +1,6 @@
+// The catalog log of document 01 over page's promises: the state, the sound check, recovery, the lookup, the scan and the push.
+mod bounds;
+mod state;
+
+pub use state::State;
+pub use state::Taken;
