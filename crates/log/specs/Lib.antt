@@ -1,3 +1,5 @@
 pub mod Bounds
 pub mod State
 pub mod Sound
+pub mod Guess
+pub mod Lookup

@@ -40,6 +40,14 @@ pub record Stored (log : List ℕ) (id position len : ℕ) : Type 0 where
   pub at-page : position ≡ page * pageSize
   pub size : len ≡ lengthAt log page - 8
 
+-- no entry has that id, and the position is that of the first entry with a greater one, or the log's end
+pub record Missing (log : List ℕ) (id position : ℕ) : Type 0 where
+  pub page : ℕ
+  pub at-page : position ≡ page * pageSize
+  pub edge : (page ≡ pageCount log) ⊎ Start log page
+  pub below : (p : ℕ) → Start log p → p < page → idAt log p < id
+  pub above : (p : ℕ) → Start log p → page ≤ p → id < idAt log p
+
 -- page p starts the last entry stored
 pub record Last (log : List ℕ) (p : ℕ) : Type 0 where
   pub start : Start log p

@@ -1,6 +1,8 @@
 // The catalog log of document 01 over page's promises: the state, the sound check, recovery, the lookup, the scan and the push.
 mod bounds;
+mod searching;
 mod state;
 
+pub use searching::Look;
 pub use state::State;
 pub use state::Taken;
