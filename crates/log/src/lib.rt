@@ -4,5 +4,6 @@ mod searching;
 mod state;
 
 pub use searching::Look;
+pub use searching::find;
 pub use state::State;
 pub use state::Taken;
