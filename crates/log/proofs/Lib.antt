@@ -5,3 +5,5 @@ pub mod Rounds
 pub mod Meeting
 pub mod Windows
 pub mod Finding
+pub mod Placing
+pub mod Handing

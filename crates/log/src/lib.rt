@@ -5,5 +5,6 @@ mod state;
 
 pub use searching::Look;
 pub use searching::find;
+pub use searching::lookup;
 pub use state::State;
 pub use state::Taken;
