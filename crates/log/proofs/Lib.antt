@@ -7,3 +7,6 @@ pub mod Windows
 pub mod Finding
 pub mod Placing
 pub mod Handing
+pub mod RightRounds
+pub mod LookupRight
+pub mod UniqueLook

@@ -8,7 +8,7 @@ use native.Mathlib.Omega.{arith}
 use lib.ListN.{length, take}
 use Rattle.page.specs.Size.{pageSize, pageCount}
 use Rattle.log.specs.Bounds.{badState}
-use Rattle.log.specs.Lookup.{Looking, found, window, searchOf, findOf}
+use Rattle.log.specs.Lookup.{Looking, found, allPages, searchOf, findOf}
 use Rattle.log.specs.declared.state.State.{State}
 use Rattle.log.proofs.Bounding.{good, length-log}
 use Rattle.log.proofs.Cases.{side}
@@ -24,7 +24,7 @@ search-of-placed log next id whole = ⊎-elim some none (side 0 id)
     some : 0 < id → Placed log id (searchOf log next id)
     some p = ⊎-elim
         (λ l. rw (search-all log next id (λ e. omega arith) l)
-        (search-placed log id (pageCount log) (window 0 (pageCount log) 0 next) (record { above = p; under = l }) (omega arith)))
+        (search-placed log id (pageCount log) (allPages log next) (record { above = p; under = l }) (omega arith)))
         (λ l. rw (search-late log next id (λ e. omega arith) l) (record { page = pageCount log; at-page = omega arith; inside = omega arith }))
         (side id next)
 

@@ -12,7 +12,7 @@ use Rattle.page.proofs.Starting.{is-whole}
 use Rattle.page.proofs.Marking.{IsBad, by-start, by-later, by-bad, mark-cases}
 use Rattle.log.specs.Guess.{offsetOf}
 use Rattle.log.specs.Sound.{Start, Stored}
-use Rattle.log.specs.Lookup.{Looking, found, absent, refused, Window, window, Next, stop, again, compared, met, walk, round, follow, search}
+use Rattle.log.specs.Lookup.{Looking, found, absent, refused, Window, window, Next, stop, again, offsetIn, compared, met, walk, round, follow, search}
 use Rattle.log.proofs.Cases.{order, side}
 
 -- ---- a page on the way back
@@ -43,7 +43,7 @@ module _ (log : List ℕ) (id : ℕ) (w : Window) where
   walk-at g zero s e = let q : s ≡ w .lo = omega arith in rw q
   walk-at g (suc d) s e = rw e
 
-  pub round-open : (o : ℕ) → w .lo < w .hi → o ≡ offsetOf (id - w .a) (w .b - w .a) (w .hi - w .lo) → round log id w ≡ walk log id w (w .lo + o) o
+  pub round-open : (o : ℕ) → w .lo < w .hi → o ≡ offsetIn id w → round log id w ≡ walk log id w (w .lo + o) o
   unfolding round
   round-open o h e = rw (lt-ltb (w .lo) (w .hi) h, ← e)
 
@@ -147,7 +147,7 @@ module _ (log : List ℕ) (id : ℕ) (w : Window) (b : Between id w) (top : w .h
 
   round-comes : w .lo < w .hi → Comes log id w (round log id w)
   round-comes l =
-      let o = offsetOf (id - w .a) (w .b - w .a) (w .hi - w .lo) in
+      let o = offsetIn id w in
       let m : o < w .hi - w .lo = offset-below (id - w .a) (w .b - w .a) (w .hi - w .lo) (omega arith) in
       rw (round-open log id w o l refl) (walk-comes (w .lo + o) (omega arith) o (omega arith))
 
