@@ -10,3 +10,4 @@ pub mod Handing
 pub mod RightRounds
 pub mod LookupRight
 pub mod UniqueLook
+pub mod Worked
