@@ -16,8 +16,8 @@ use Rattle.log.proofs.Placing.{found-held}
 module _ (store : List ℕ) (st : State) (id : ℕ) (out : List ℕ) where
   module _ (position len : ℕ) (f : findOf store st id ≡ found position len) where
     -- the data's pages lie in the log
-    pub data-within : position / pageSize + pagesFor (8 + len) ≤ pageCount (take (st .length) store)
-    data-within =
+    pub data-within : (s : ℕ) → s ≡ position / pageSize → s + pagesFor (8 + len) ≤ pageCount (take (st .length) store)
+    data-within s p =
         let h = found-held store st id position len f in
         let e : 8 + len ≡ lengthAt (take (st .length) store) (h .stored .page) = omega (arith, h .stored .size, h .long) in
         rw e (omega (arith, h .stored .at-page, h .within))
@@ -26,9 +26,9 @@ module _ (store : List ℕ) (st : State) (id : ℕ) (out : List ℕ) where
     unfolding lookupOf handed
     too-small l = rw (f, lt-ltb (length out) len l)
 
-    pub handed-over : len ≤ length out → lookupOf store st id out ≡ looked (found position len) (dataAt (take (st .length) store) (position / pageSize) len ++ drop len out)
+    pub handed-over : (s : ℕ) → s ≡ position / pageSize → len ≤ length out → lookupOf store st id out ≡ looked (found position len) (dataAt (take (st .length) store) s len ++ drop len out)
     unfolding lookupOf handed
-    handed-over l = rw (f, le-ltb (length out) len l)
+    handed-over s p l = rw (f, le-ltb (length out) len l, p)
 
   pub nothing-absent : (position : ℕ) → findOf store st id ≡ absent position → lookupOf store st id out ≡ looked (absent position) out
   unfolding lookupOf handed

@@ -87,7 +87,6 @@ module _ (store : List ℕ) (st : State) (id : ℕ)
     where
       go : (r : Looking) → findOf store st id ≡ r → Right log id r → RightLook log id out (lookupOf store st id out .answer) (lookupOf store st id out .out)
       go (found position len) e f =
-          let p : position / pageSize ≡ f .page = omega (arith, f .at-page) in
-          rw (handed-over store st id out position len e (room position len f)) (f, rw p)
+          rw (handed-over store st id out position len e (f .page) (omega (arith, f .at-page)) (room position len f)) (f, refl)
       go (absent position) e f = rw (nothing-absent store st id out position e) (f, refl)
       go (refused number value) e f = absurd f

@@ -84,10 +84,10 @@ module _ {log : List ℕ} {next id lo hi a b : ℕ} {answer : Look} {g s : ℕ} 
   pub above : (stored : ℕ) (answer′ : Look) → Says log id s (Above stored) → paperLook answer′ ≡ absent (s * pageSize) → Open log next id lo s a stored answer′
   above stored answer′ e = narrowed (h .opened) lo s a stored answer′ (omega arith) (turn (Above stored) e)
 
-  pub passed : s ≡ lo → Says log id s Back → Open log next id (g + 1) hi a b answer
-  passed q e =
+  pub passed : (lo′ : ℕ) → lo′ ≡ g + 1 → s ≡ lo → Says log id s Back → Open log next id lo′ hi a b answer
+  passed lo′ m q e =
       let z : s - lo ≡ 0 = omega arith in
-      narrowed (h .opened) (g + 1) hi a b answer (omega arith) (rw z at (turn Back e)) (h .opened .shown)
+      narrowed (h .opened) lo′ hi a b answer (omega arith) (rw (z, ← m) at (turn Back e)) (h .opened .shown)
 
   pub stepped : lo < s → Says log id s Back → Walking log next id lo hi a b answer g (s - 1)
   stepped l e =

@@ -54,7 +54,7 @@ slice-aggregate-copy-data : tie.Need-slice-aggregate-copy-data
 slice-aggregate-copy-data c = sym (log-length (c .before .before .before))
 
 copy-data-requires : tie.Need-copy-data-requires
-copy-data-requires c κs = (omega arith, data-within _ _ _ (start-of (c .before .before .before .before) .args .out .now) _ _ (is-found (c .before .before .before .before)))
+copy-data-requires c κs = (omega arith, data-within _ _ _ (start-of (c .before .before .before .before) .args .out .now) _ _ (is-found (c .before .before .before .before)) _ (omega arith))
 
 same-length : tie.Need-same-length
 same-length c = search needs
@@ -63,7 +63,7 @@ returns-2 : tie.Need-returns-2
 returns-2 c =
     let at-found = c .before .before .before .before .before .before .before in
     ap (looked (found (at-found .look .given .0 .0) (at-found .look .given .0 .1 .0))) (c .before .before .copy-data .ensures)
-    ∙ sym (handed-over _ _ _ _ _ _ (is-found at-found) (omega arith))
+    ∙ sym (handed-over _ _ _ _ _ _ (is-found at-found) _ (omega arith) (omega arith))
 
 returns-3 : tie.Need-returns-3
 returns-3 c = nothing _ _ _ _ (c .before .find .result) (c .match .keys2) (c .before .find .ensures)
