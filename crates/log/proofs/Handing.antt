@@ -1,6 +1,6 @@
 -- The lookup after the search: refusal 10, the data handed over, or nothing. Assumes nothing.
-use Prim.Native.Nat.{ℕ, _+_, _*_, _/_, _≤_, _<_}
-use mathlib.Core.Path.{_≡_, refl, sym, _∙_}
+use Prim.Native.Nat.{ℕ, _+_, _/_, _≤_, _<_}
+use mathlib.Core.Path.{_≡_}
 use mathlib.Core.List.{List, _++_}
 use native.Mathlib.Omega.{arith}
 use borrow.Author.Tests.{lt-ltb, le-ltb}
@@ -8,10 +8,9 @@ use lib.ListN.{length, take, drop}
 use Rattle.page.specs.Size.{pageSize, pagesFor, pageCount}
 use Rattle.page.specs.Entry.{lengthAt}
 use Rattle.page.specs.Data.{dataAt}
-use Rattle.log.specs.Lookup.{Looking, found, absent, refused, findOf, looked, handed, lookupOf}
+use Rattle.log.specs.Lookup.{found, absent, refused, findOf, looked, handed, lookupOf}
 use Rattle.log.specs.declared.state.State.{State}
-use Rattle.log.proofs.Rounds.{Held}
-use Rattle.log.proofs.Placing.{found-held}
+use Rattle.log.proofs.Positions.{found-held}
 
 module _ (store : List ℕ) (st : State) (id : ℕ) (out : List ℕ) where
   module _ (position len : ℕ) (f : findOf store st id ≡ found position len) where

@@ -5,7 +5,7 @@ pub mod Rounds
 pub mod Meeting
 pub mod Windows
 pub mod Finding
-pub mod Placing
+pub mod Positions
 pub mod Handing
 pub mod RightRounds
 pub mod LookupRight

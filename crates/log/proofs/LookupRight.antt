@@ -1,22 +1,21 @@
 -- 01, "Lookup": on a sound log, with enough buffer, an id from 1 to below next is found exactly if stored, with its position, data length and data; else it is absent at the first greater entry, or at the log's end. Assumes nothing.
-use Prim.Native.Nat.{ℕ, _+_, _-_, _*_, _/_, _≤_, _<_}
-use mathlib.Core.Path.{_≡_, refl, sym, ap, _∙_, subst}
-use mathlib.Core.Logic.{_⊎_, inl, inr, ⊎-elim}
+use Prim.Native.Nat.{ℕ, _-_, _*_, _≤_, _<_}
+use mathlib.Core.Path.{_≡_, refl, sym, _∙_}
+use mathlib.Core.Logic.{inl, ⊎-elim}
 use mathlib.Core.Bool.{false}
-use mathlib.Core.List.{List, _++_}
+use mathlib.Core.List.{List}
 use native.Mathlib.Omega.{arith}
-use lib.ListN.{length, take, drop}
+use lib.ListN.{length, take}
 use Rattle.page.specs.Size.{pageSize, pageCount}
-use Rattle.page.specs.Data.{dataAt}
 use Rattle.page.specs.Entry.{lengthAt, idAt}
 use Rattle.log.specs.Bounds.{badState}
 use Rattle.log.specs.Sound.{Start, Sound, Stored, Missing}
-use Rattle.log.specs.Lookup.{Looking, found, absent, refused, allPages, looked, findOf, lookupOf, Right, Room, RightLook}
+use Rattle.log.specs.Lookup.{Looking, found, absent, refused, allPages, findOf, lookupOf, Right, Room, RightLook}
 use Rattle.log.specs.declared.state.State.{State}
 use Rattle.log.proofs.Cases.{side, order}
 use Rattle.log.proofs.Finding.{find-in, search-all}
 use Rattle.log.proofs.Handing.{handed-over, nothing-absent}
-use Rattle.log.proofs.RightRounds.{Around, searched}
+use Rattle.log.proofs.RightRounds.{searched}
 
 -- ---- on a sound log there is one right answer
 

@@ -1,11 +1,11 @@
 -- What the two loops of `search` keep: the rounds that are left answer as the whole search. Assumes nothing.
 use Prim.Native.Nat.{ℕ, zero, suc, _+_, _-_, _*_, _≤_, _<_, max}
-use mathlib.Core.Path.{_≡_, refl, sym, _∙_}
+use mathlib.Core.Path.{_≡_, sym, _∙_}
 use mathlib.Core.List.{List}
 use native.Mathlib.Omega.{arith}
 use Rattle.page.specs.Size.{pageSize, pageCount}
 use Rattle.log.specs.Guess.{offsetOf}
-use Rattle.log.specs.Lookup.{Looking, absent, Window, window, Next, stop, again, met, walk, round, search, searchOf, paperLook}
+use Rattle.log.specs.Lookup.{Looking, absent, Window, window, stop, again, walk, round, search, searchOf, paperLook}
 use Rattle.log.specs.Turns.{turned, Says}
 use Rattle.log.specs.declared.searching.Look.{Look}
 use Rattle.log.specs.declared.searching.Turn.{Turn}

@@ -1,13 +1,12 @@
 -- `find` meets its contract: each return is one law of `Finding`. Assumes nothing.
-use Prim.Native.Nat.{ℕ, _≤_, _^_}
+use Prim.Native.Nat.{ℕ}
 use mathlib.Core.Path.{_≡_, sym, _∙_}
 use mathlib.Core.Bool.{false}
 use mathlib.Core.List.{List}
 use native.Mathlib.Omega.{arith}
 use borrow.Author.Needs.{needs}
-use lib.ListN.{length, take}
+use lib.ListN.{length}
 use Rattle.log.specs.Bounds.{badState}
-use Rattle.log.specs.declared.state.State.{State}
 use Rattle.log.proofs.Bounding.{Good, good, length-log}
 use Rattle.log.proofs.Finding.{find-bad, find-in, find-zero, find-late}
 use Rattle.log.proofs.searching.find.Statement.{statement}

@@ -1,8 +1,8 @@
 -- `lookup` meets its contract: each return is one law of `Handing`. Assumes nothing.
-use Prim.Native.Nat.{ℕ, _≤_}
-use mathlib.Core.Path.{_≡_, refl, sym, ap, _∙_}
+use Prim.Native.Nat.{ℕ}
+use mathlib.Core.Path.{_≡_, sym, ap, _∙_}
 use mathlib.Core.Logic.{_⊎_, inl, inr}
-use mathlib.Core.List.{List, _++_}
+use mathlib.Core.List.{List}
 use native.Mathlib.Omega.{arith}
 use borrow.Author.Needs.{needs}
 use denote.Enum.Declared.{tagOf}
@@ -14,7 +14,7 @@ use Rattle.log.specs.declared.searching.Look.{Look}
 use Rattle.log.specs.declared.searching.Look.the-variants.{Found, Absent, Refused}
 use Rattle.log.proofs.searching.Look as look
 use Rattle.log.proofs.Bounding.{good, length-log}
-use Rattle.log.proofs.Placing.{found-good}
+use Rattle.log.proofs.Positions.{found-good}
 use Rattle.log.proofs.Handing.{data-within, too-small, handed-over, nothing-absent, nothing-refused}
 use Rattle.log.proofs.searching.lookup.Statement.{statement}
 use Rattle.log.proofs.searching.lookup.Tie as tie

@@ -1,7 +1,6 @@
 -- `search` meets its contract: each way through the loops is one law of `Windows`. Assumes nothing.
-use Prim.Native.Nat.{ℕ, _+_, _-_, _≤_, _<_}
+use Prim.Native.Nat.{_-_, _<_}
 use mathlib.Core.Path.{_≡_, refl, subst}
-use mathlib.Core.List.{List}
 use native.Mathlib.Omega.{arith}
 use borrow.Author.Needs.{needs}
 use Rattle.page.specs.Size.{pageCount}

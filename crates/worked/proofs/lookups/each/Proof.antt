@@ -1,6 +1,5 @@
 -- `each` is safe and ends. Assumes nothing.
 use Prim.Native.Nat.{_-_}
-use native.Mathlib.Omega.{arith}
 use borrow.Author.Needs.{needs}
 use Rattle.worked.proofs.lookups.each.Statement.{statement}
 use Rattle.worked.proofs.lookups.each.Tie as tie
