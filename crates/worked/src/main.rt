@@ -1,4 +1,5 @@
 // Runs the cases of document 01 by the real code, and says what each gave.
+mod ids;
 mod say;
 
 use refusal::Refusal;
@@ -6,4 +7,5 @@ use refusal::Refusal;
 fn main() {
     say::refusal(Refusal::BadMark { page: 12 });
     say::text(b"\n");
+    ids::run();
 }

@@ -1,0 +1,11 @@
+pub mod Order
+pub mod Bits
+pub mod Shifting
+pub mod Clearing
+pub mod Rounds
+pub mod Notes
+pub mod Unique
+pub mod Window
+pub mod Kept
+pub mod Complete
+pub mod Worked

@@ -1,0 +1,43 @@
+-- What noting an id gives, case by case. Assumes nothing.
+use Prim.Native.Nat.{ℕ, _+_, _-_, _/_, _%_, _≤_, _<_}
+use mathlib.Core.Path.{_≡_, sym, ap}
+use mathlib.Core.List.{List}
+use borrow.Author.Tests.{lt-ltb, le-ltb, le-leb, lt-leb, eq-eqb, ne-eqb}
+use lib.ListN.{getD, set}
+use Rattle.sequence.specs.Window.{marked, only}
+use Rattle.sequence.specs.Sequence.{Answer, refused, Moved, truncateOf, stored, raised, Outcome, outcome, settled, noteOf}
+use Rattle.sequence.specs.declared.IdSequence.{IdSequence}
+
+-- an answer and its words, apart
+pub apart : {a : Answer} {ws : List ℕ} {o : Outcome} → o ≡ outcome a ws → (a ≡ o .answer) × (ws ≡ o .words)
+apart e = (sym (ap (λ (x : Outcome). x .answer) e), sym (ap (λ (x : Outcome). x .words) e))
+
+module _ (s : IdSequence) (words : List ℕ) (id : ℕ) where
+  pub note-below : id < s .start → noteOf s words id ≡ outcome (refused 11 0) words
+  unfolding noteOf
+  note-below h = rw (lt-ltb id (s .start) h)
+
+  module _ (from : s .start ≤ id) where
+    pub note-far : 4096 ≤ id - s .start → noteOf s words id ≡ outcome (refused 12 0) words
+    unfolding noteOf
+    note-far h = rw (le-ltb id (s .start) from, le-leb 4096 (id - s .start) h)
+
+    module _ (near : id - s .start < 4096) where
+      pub note-last : id ≡ 18446744073709551615 → noteOf s words id ≡ outcome (refused 12 0) words
+      unfolding noteOf
+      note-last e = rw (le-ltb id (s .start) from, lt-leb 4096 (id - s .start) near, eq-eqb id 18446744073709551615 e)
+
+      module _ (fits : id ≡ 18446744073709551615 → ⊥) where
+        pub note-in : noteOf s words id ≡ settled (raised s id) (truncateOf (raised s id) (s .start) (stored s words id))
+        unfolding noteOf
+        note-in = rw (le-ltb id (s .start) from, lt-leb 4096 (id - s .start) near, ne-eqb id 18446744073709551615 fits)
+
+        -- the same from its parts
+        pub note-of : (held past word : ℕ) (left : List ℕ) (m : Moved)
+            → held ≡ s .after - s .start
+            → left ≡ only held ((id - s .start) / 64 + 1) words
+            → word ≡ marked (getD left ((id - s .start) / 64) 0) ((id - s .start) % 64)
+            → past ≡ raised s id
+            → m ≡ truncateOf past (s .start) (set left ((id - s .start) / 64) word)
+            → noteOf s words id ≡ settled past m
+        note-of held past word left m h l w p e = rw (e, w, l, h, p) note-in

@@ -1,0 +1,3 @@
+pub mod Window
+pub mod Sequence
+pub mod History
