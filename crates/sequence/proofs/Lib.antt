@@ -6,6 +6,7 @@ pub mod Rounds
 pub mod Notes
 pub mod Unique
 pub mod Window
-pub mod Kept
+pub mod Known
 pub mod Complete
 pub mod Worked
+pub mod Adds

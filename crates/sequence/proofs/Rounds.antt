@@ -37,17 +37,24 @@ module _ (after start : ℕ) (words : List ℕ) where
   unfolding rounds
   rounds-go k h e = rw (lt-ltb start after h, e)
 
-pub rounds-rise : (k after start : ℕ) (words : List ℕ) → start ≤ rounds k after start words .start
-rounds-rise zero after start words = rw (rounds-none after start words) (omega arith)
-rounds-rise (suc k) after start words =
-    ⊎-elim (λ l. inside l (rounds-rise k after (start + next after start) (passed after start words)) (allNoted (getD words 0 0) (next after start)) refl)
-    (λ l. rw (rounds-end after start words (suc k) l) (omega arith))
+-- what each round keeps, all of them keep
+pub by-rounds : (after : ℕ) (P : ℕ → List ℕ → Type 0)
+    → ((start : ℕ) (words : List ℕ) → start < after → allNoted (getD words 0 0) (next after start) ≡ true → P start words
+    → P (start + next after start) (passed after start words))
+    → (k start : ℕ) (words : List ℕ) → P start words → P (rounds k after start words .start) (rounds k after start words .words)
+by-rounds after P one zero start words p = rw (rounds-none after start words) p
+by-rounds after P one (suc k) start words p =
+    ⊎-elim (λ l. inside l (by-rounds after P one k (start + next after start) (passed after start words)) (allNoted (getD words 0 0) (next after start)) refl)
+    (λ l. rw (rounds-end after start words (suc k) l) p)
     (side start after)
   where
-    inside : start < after → start + next after start ≤ rounds k after (start + next after start) (passed after start words) .start
-        → (t : Bool) → allNoted (getD words 0 0) (next after start) ≡ t → start ≤ rounds (suc k) after start words .start
-    inside l again false e = rw (rounds-stop after start words (suc k) e) (omega arith)
-    inside l again true e = rw (rounds-go after start words k l e) (omega arith)
+    Kept : Moved → Type 0
+    Kept m = P (m .start) (m .words)
+
+    inside : start < after → (P (start + next after start) (passed after start words) → Kept (rounds k after (start + next after start) (passed after start words)))
+        → (t : Bool) → allNoted (getD words 0 0) (next after start) ≡ t → Kept (rounds (suc k) after start words)
+    inside l again false e = rw (rounds-stop after start words (suc k) e) p
+    inside l again true e = rw (rounds-go after start words k l e) (again (one start words l e p))
 
 -- the rounds are enough, whatever the words: either none remain, or not all the next ids are noted
 pub rounds-stopped : (k after start : ℕ) (words : List ℕ) → after - start ≤ k

@@ -20,15 +20,15 @@ pub none : (v : List ℕ) → Shifted v v 0
 none v = record { size = refl; below = λ k h. absurd (omega arith); above = λ k h. refl }
 
 module _ {v w : List ℕ} {i : ℕ} (s : Shifted v w i) where
-  pub one : i < length v → Shifted v (set w i (getD w (i + 1) 0)) (i + 1)
-  one h = record {
-    size = length-set w i (getD w (i + 1) 0) ∙ s .size;
-    below = λ k l. ⊎-elim (λ m. getD-set-other w i k (getD w (i + 1) 0) 0 (λ e. absurd (omega arith)) ∙ s .below k m) (λ g. last k (omega arith)) (side k i);
-    above = λ k l. getD-set-other w i k (getD w (i + 1) 0) 0 (λ e. absurd (omega arith)) ∙ s .above k (omega arith);
+  pub one : i < length v → (j : ℕ) → j ≡ i + 1 → Shifted v (set w i (getD w j 0)) (i + 1)
+  one h j e = record {
+    size = length-set w i (getD w j 0) ∙ s .size;
+    below = λ k l. ⊎-elim (λ m. getD-set-other w i k (getD w j 0) 0 (λ q. absurd (omega arith)) ∙ s .below k m) (λ g. last k (omega arith)) (side k i);
+    above = λ k l. getD-set-other w i k (getD w j 0) 0 (λ q. absurd (omega arith)) ∙ s .above k (omega arith);
   }
     where
-      last : (k : ℕ) → k ≡ i → getD (set w i (getD w (i + 1) 0)) k 0 ≡ getD v (k + 1) 0
-      last k e = rw e (getD-set-same w i (getD w (i + 1) 0) 0 (omega (arith, s .size)) ∙ s .above (i + 1) (omega arith))
+      last : (k : ℕ) → k ≡ i → getD (set w i (getD w j 0)) k 0 ≡ getD v (k + 1) 0
+      last k q = rw (q, e) (getD-set-same w i (getD w (i + 1) 0) 0 (omega (arith, s .size)) ∙ s .above (i + 1) (omega arith))
 
   last-zero : i + 1 ≡ length v → set w i 0 ≡ drop 1 v ++ (0 ∷ [])
   last-zero e = ext-getD 0 (set w i 0) (drop 1 v ++ (0 ∷ [])) sizes same

@@ -1,10 +1,10 @@
 -- A sequence from its first start on, through any notes, refused ones among them.
-use Prim.Native.Nat.{ℕ, _-_, _≤_, _<_}
+use Prim.Native.Nat.{ℕ, _≤_, _<_}
 use mathlib.Core.Path.{_≡_}
 use mathlib.Core.Bool.{true}
-use mathlib.Core.Logic.{_⊎_}
+use mathlib.Core.Logic.{_↔_}
 use mathlib.Core.List.{List, [], _∷_, List·Memᴰ}
-use Rattle.sequence.specs.Window.{bitAt}
+use Rattle.sequence.specs.Known.{Known}
 use Rattle.sequence.specs.Sequence.{Answer, noted, refused, newOf, completeOf, noteOf}
 use Rattle.sequence.specs.declared.IdSequence.{IdSequence}
 
@@ -40,19 +40,13 @@ In id ids = List·Memᴰ id ids
 abbrev pub NoGap : ℕ → List ℕ → Type 0
 NoGap first ids = (i highest : ℕ) → In highest ids → first ≤ i → i ≤ highest → In i ids
 
--- the sequence knows an id as noted: start has passed it, or it is not above the highest and its bit is set
-abbrev pub Holds : History → ℕ → Type 0
-Holds h id =
-    (id < h .sequence .start) ⊎ ((h .sequence .start ≤ id) × (id < h .sequence .after) × (bitAt (h .words) (id - h .sequence .start) ≡ 1))
-
 -- 01, "Id sequence", of a sequence as it is after some notes, and after any later ones
 pub record Right (first : ℕ) (now later : History) : Type 0 where
   -- complete is yes exactly if every id from the first start to the highest noted has been noted
-  pub complete-if : NoGap first (now .ids) → completeOf (now .sequence) ≡ true
-  pub complete-only : completeOf (now .sequence) ≡ true → NoGap first (now .ids)
+  pub complete : (completeOf (now .sequence) ≡ true) ↔ NoGap first (now .ids)
   -- start never falls
   pub start-rises : now .sequence .start ≤ later .sequence .start
   -- start never passes an id that is not noted
   pub start-passes : (i : ℕ) → first ≤ i → i < now .sequence .start → In i (now .ids)
   -- an id accepted stays noted
-  pub accepted-stays : (i : ℕ) → In i (now .ids) → Holds later i
+  pub accepted-stays : (i : ℕ) → In i (now .ids) → Known (later .sequence .after) (later .sequence .start) (later .words) i

@@ -1,7 +1,7 @@
 // Which of the ids from a start on have been noted, in 64 words that the caller lends.
 ghost use mathlib.Core.Path.{_≡_};
-ghost use Rattle.sequence.specs.Sequence.{moved, truncateOf, newOf, completeOf, paperNoted, raised, noteOf};
 ghost use Prim.Native.Nat.{_-_, _<_};
+ghost use Rattle.sequence.specs.Sequence.{newOf, completeOf, paperNoted, noteOf, raised, moved, truncateOf};
 
 mod words;
 
@@ -30,7 +30,8 @@ impl IdSequence {
     }
 
     pub fn note(self, words: &mut [u64; 64], id: u64) -> Noted
-        ensures { λ r. ⌜ (paperNoted r ≡ noteOf self (now (words .entry)) id .answer) × (now (words .exit) ≡ noteOf self (now (words .entry)) id .words) ⌝ }
+        ensures { λ r. ⌜ paperNoted r ≡ noteOf self (now (words .entry)) id .answer ⌝ }
+        ensures { λ r. ⌜ now (words .exit) ≡ noteOf self (now (words .entry)) id .words ⌝ }
     {
         let start = self.start;
         if id < start {
@@ -44,6 +45,7 @@ impl IdSequence {
             return Noted::Refused(Refusal::OutsideWindow);
         }
         let at = (offset / 64) as usize;
+        // No id above the highest is noted, whatever the lent words hold.
         words::forget(words, self.remaining(), at + 1);
         words[at] = words::mark(words[at], offset);
         let after = self.raised(id);
@@ -53,7 +55,7 @@ impl IdSequence {
         })
     }
 
-    // Whether none remain: every id from the first start to the highest noted has been noted.
+    // Whether none remain, that is, every id from the first start to the highest noted has been noted.
     pub fn complete(self) -> bool
         ensures { λ r. ⌜ r ≡ completeOf self ⌝ }
     {
@@ -84,7 +86,7 @@ impl IdSequence {
     }
 }
 
-// Moves start past whole runs of noted ids, and gives the new start.
+// The new start: while ids remain it moves past the first 64 of them, or all if fewer, if all are noted.
 fn truncate(words: &mut [u64; 64], from: u64, after: u64) -> u64
     ensures { λ r. ⌜ moved r (now (words .exit)) ≡ truncateOf after from (now (words .entry)) ⌝ }
 {

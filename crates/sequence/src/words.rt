@@ -29,7 +29,7 @@ pub fn all_noted(word: u64, n: u64) -> bool
     word & m == m
 }
 
-// Clears the bits from an offset on in the first words: what they held there was noted by nobody.
+// Clears the bits from an offset on, in the first words alone.
 pub fn forget(words: &mut [u64; 64], from: u64, count: usize)
     requires { ⌜ count ≤ 64 ⌝ }
     ensures { λ r. ⌜ now (words .exit) ≡ only from count (now (words .entry)) ⌝ }

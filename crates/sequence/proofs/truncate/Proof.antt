@@ -33,8 +33,7 @@ returns c =
 returns-2 : tie.Need-returns-2 Inv-loop μ-loop
 returns-2 c =
     let d = c .before in
-    going-last (d .before .before .before .before .loop .inv) (d .before .before .before .loop-test .taken) (c .if2 .taken)
-    (sym (d .before .all-noted .ensures) ∙ not-false _ (d .if1 .left))
+    going-last (d .before .before .before .before .loop .inv) (omega arith) (omega arith) (sym (d .before .all-noted .ensures) ∙ not-false _ (d .if1 .left))
 
 shift-requires : tie.Need-shift-requires Inv-loop μ-loop
 shift-requires c κs = search needs
@@ -47,10 +46,9 @@ loop-less c = omega arith
 
 loop-again : tie.Need-loop-again Inv-loop μ-loop
 loop-again c =
-    let e = c .before .before in
-    let d = e .before in
+    let d = c .before .before .before in
     rw (c .shift .ensures)
-    (going-more (d .before .before .before .before .loop .inv) (e .if2 .left) (sym (d .before .all-noted .ensures) ∙ not-false _ (d .if1 .left)))
+    (going-more (d .before .before .before .before .loop .inv) (omega arith) (sym (d .before .all-noted .ensures) ∙ not-false _ (d .if1 .left)))
 
 returns-3 : tie.Need-returns-3 Inv-loop μ-loop
 returns-3 c = going-end (c .before .loop .inv) (c .loop-test .left)

@@ -49,7 +49,7 @@ returns-4 c =
     let r = c .before .before in
     let m = r .before in
     let f = m .before .before in
-    apart (note-of _ _ _ (omega arith) (omega arith) (λ e. absurd (omega arith)) _ _ _ _ _
+    apart (note-of _ _ _ (omega arith) (omega arith) (λ e. absurd (omega arith)) _ _ _ _ _ _ _ (omega arith) (omega arith)
     (f .before .remaining .ensures) (f .forget .ensures) (m .mark .ensures) (r .raised .ensures) (c .truncate .ensures))
 
 pub note-spec : {M : Type 1} → statement M

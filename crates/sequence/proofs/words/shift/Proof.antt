@@ -40,7 +40,7 @@ loop-less : tie.Need-loop-less Inv-loop μ-loop
 loop-less c = omega arith
 
 loop-again : tie.Need-loop-again Inv-loop μ-loop
-loop-again c = (omega arith, one (c .before .before .loop .inv .1) (omega arith))
+loop-again c = (omega arith, one (c .before .before .loop .inv .1) (omega arith) _ (omega arith))
 
 mul-words-3 : tie.Need-mul-words-3 Inv-loop μ-loop
 mul-words-3 c = omega arith
