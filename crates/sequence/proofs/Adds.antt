@@ -5,7 +5,7 @@ use mathlib.Core.Logic.{_⊎_, _↔_, Iff·trans}
 use mathlib.Core.List.{List}
 use native.Mathlib.Omega.{arith}
 use lib.ListN.{length}
-use Rattle.sequence.specs.Sequence.{noted, Moved, stored, raised, Outcome, settled, noteOf}
+use Rattle.sequence.specs.Sequence.{noted, Moved, truncateOf, stored, raised, Outcome, settled, noteOf}
 use Rattle.sequence.specs.Known.{Known}
 use Rattle.sequence.specs.declared.IdSequence.{IdSequence}
 use Rattle.sequence.proofs.Known.{known-stored, known-rounds}
@@ -32,4 +32,4 @@ module _ (s : IdSequence) (words : List ℕ) (size : length words ≡ 64) (id : 
   pub note-adds : Adds (noteOf s words id)
   note-adds =
       by-cases s words id Adds (λ number start after e. let z : _≡_ {A = ℕ} 0 1 = cc in absurd (omega arith))
-      (λ g l. adds _ (λ i. Iff·trans (known-rounds _ (raised s id) (s .start) (stored s words id) i) (known-stored (s .after) (s .start) words size id g l i)))
+      (λ g l. adds (truncateOf (raised s id) (s .start) (stored s words id)) (λ i. Iff·trans (known-rounds _ (raised s id) (s .start) (stored s words id) i) (known-stored (s .after) (s .start) words size id g l i)))

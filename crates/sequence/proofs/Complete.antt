@@ -124,9 +124,10 @@ module _ {first : ℕ} {ids : List ℕ} {after start : ℕ} {words : List ℕ} (
       set-bit k (inr (a, b, e)) = ap (λ (n : ℕ). bitAt words n) (let q : k ≡ start + k - start = omega arith in q) ∙ e
 
 complete-is : (first : ℕ) (h : History) → StandsAt first h → (completeOf (h .sequence) ≡ true) ↔ NoGap first (h .ids)
-complete-is first h s =
-    (λ e. none-remain s (leb-true (h .sequence .after) (h .sequence .start) e),
-    λ g. ⊎-elim (λ l. absurd (some-remain s l g)) (λ l. le-leb (h .sequence .after) (h .sequence .start) l) (side (h .sequence .start) (h .sequence .after)))
+complete-is first h s = (
+  λ e. none-remain s (leb-true (h .sequence .after) (h .sequence .start) e),
+  λ g. ⊎-elim (λ l. absurd (some-remain s l g)) (λ l. le-leb (h .sequence .after) (h .sequence .start) l) (side (h .sequence .start) (h .sequence .after)),
+)
 
 -- ---- the theorem
 

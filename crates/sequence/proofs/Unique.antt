@@ -4,7 +4,6 @@ use mathlib.Core.Path.{_≡_, sym, ap, _∙_}
 use mathlib.Core.Bool.{Bool}
 use mathlib.Core.List.{List}
 use native.Mathlib.Omega.{arith}
-use Rattle.refusal.specs.Refusal.{numberOf, valueOf}
 use Rattle.refusal.proofs.Unique.{refusal-unique}
 use Rattle.sequence.specs.Sequence.{paperNoted, newOf, completeOf, noteOf}
 use Rattle.sequence.specs.declared.IdSequence.{IdSequence}

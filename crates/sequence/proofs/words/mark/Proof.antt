@@ -1,5 +1,5 @@
 -- `sequence::words::mark` meets its contract. Assumes nothing.
-use Prim.Native.Nat.{_-_, _%_, _^_, _<_}
+use Prim.Native.Nat.{_%_, _^_}
 use native.Mathlib.Nat.{one-mul, mod-eq-of-lt, mod-lt}
 use borrow.Author.Needs.{needs}
 use lib.Dec.{lit<}

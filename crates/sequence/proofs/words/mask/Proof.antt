@@ -1,6 +1,6 @@
 -- `sequence::words::mask` meets its contract. Assumes nothing.
 use mathlib.Core.Path.{_≡_}
-use Prim.Native.Nat.{ℕ, _-_, _*_, _%_, _^_, _<_}
+use Prim.Native.Nat.{ℕ, _*_, _%_, _^_, _<_}
 use native.Mathlib.Omega.{arith}
 use native.Mathlib.Nat.{one-mul, mod-eq-of-lt, min-eq-left, min-eq-right}
 use borrow.Author.Needs.{needs}
