@@ -25,18 +25,21 @@ answered h id (noted start after) words =
 answered h id (refused number value) words =
     record { sequence = h .sequence; words = words; ids = h .ids }
 
+-- one note
 abbrev pub step : History → ℕ → History
 step h id =
     answered h id (noteOf (h .sequence) (h .words) id .answer) (noteOf (h .sequence) (h .words) id .words)
 
+-- any notes, one after the other
 unfoldable pub run : History → List ℕ → History
 run h [] = h
 run h (id ∷ notes) = run (step h id) notes
 
+-- the id is one of these
 abbrev pub In : ℕ → List ℕ → Type 0
 In id ids = List·Memᴰ id ids
 
--- "every id from the first start to the highest noted has been noted"
+-- "every id from the first start to the highest noted has been noted": to any noted id, so to the highest
 abbrev pub NoGap : ℕ → List ℕ → Type 0
 NoGap first ids = (i highest : ℕ) → In highest ids → first ≤ i → i ≤ highest → In i ids
 

@@ -1,5 +1,6 @@
 -- 01, "Id sequence": what making a sequence, noting an id and asking for completeness answer.
--- A sequence is its start and after, one past the highest noted: the ids from start up to but not including after remain.
+-- after is one past "the highest": from start up to but not including after are the ids that remain, none is written as after = start,
+-- and since 2^64-1 is never noted after fits 64 bits.
 use Prim.Native.Nat.{ℕ, zero, suc, _+_, _-_, _/_, min, max}
 use mathlib.Core.Bool.{Bool}
 use mathlib.Core.List.{List}
@@ -30,7 +31,7 @@ newOf start = record { start = start; after = start }
 abbrev pub completeOf : IdSequence → Bool
 completeOf s = leb (s .after) (s .start)
 
--- a start and the words from it on
+-- a start, and the words from it on
 pub record Moved : Type 0 where
   pub start : ℕ
   pub words : List ℕ
@@ -42,11 +43,12 @@ moved start words = record { start = start; words = words }
 abbrev pub next : ℕ → ℕ → ℕ
 next after start = min 64 (after - start)
 
--- the words from past the next ids on; where none remain, nothing that they hold is noted, and they stay
+-- the words once "start moves past them": down by one; where none remain, no bit of them is of a noted id, and they stay
 abbrev pub passed : ℕ → ℕ → List ℕ → List ℕ
 passed after start words = pick (ltb 64 (after - start)) (shifted words) words
 
--- "while ids from start to the highest remain, take the first 64 of them, or all if fewer; if all are noted, start moves past them, else stop"
+-- "while ids from start to the highest remain, take the first 64 of them, or all if fewer; if all are noted, start moves past them, else stop":
+-- so at most k times
 unfoldable pub rounds : ℕ → ℕ → ℕ → List ℕ → Moved
 rounds zero after start words = moved start words
 rounds (suc k) after start words =
@@ -56,11 +58,11 @@ rounds (suc k) after start words =
     (moved start words))
     (moved start words)
 
--- a round moves start by one at least, so that there are no more rounds than ids
+-- the same with no bound: each time start moves by one at least, so not more often than ids remain
 abbrev pub truncateOf : ℕ → ℕ → List ℕ → Moved
 truncateOf after start words = rounds (after - start) after start words
 
--- "Noting an id stores it": whatever the words held, no id above the highest was noted before
+-- "Noting an id stores it": its bit is set, once the words up to its own hold nothing above the highest, where no id was noted
 abbrev pub stored : IdSequence → List ℕ → ℕ → List ℕ
 stored s words id =
     markedAt (only (s .after - s .start) ((id - s .start) / 64 + 1) words) (id - s .start)
@@ -77,11 +79,12 @@ pub record Outcome : Type 0 where
 abbrev pub outcome : Answer → List ℕ → Outcome
 outcome answer words = record { answer = answer; words = words }
 
+-- the answer once start has moved
 abbrev pub settled : ℕ → Moved → Outcome
 settled after m = outcome (noted (m .start) after) (m .words)
 
--- 11 for an id "below the sequence's start", 12 for one "4,096 or more above it, or 2^64-1", both with the words unchanged;
--- else the id is stored, the highest raised, and start moves
+-- 11 for "an id noted below the sequence's start", 12 for one "4,096 or more above it, or 2^64-1", with the words unchanged;
+-- else the id is stored, the highest raised, "then" start moves
 unfoldable pub noteOf : IdSequence → List ℕ → ℕ → Outcome
 noteOf s words id =
     pick (ltb id (s .start)) (outcome (refused 11 0) words)

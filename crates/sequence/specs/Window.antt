@@ -1,4 +1,4 @@
--- 01, "Id sequence": "Window: 4,096 ids from start". 64 words hold it: bit k of the words is 1 where the id start + k is noted.
+-- 01, "Id sequence": "Window: 4,096 ids from start", in 64 words. Bit k of them is for the id start + k.
 use Prim.Native.Nat.{ℕ, zero, suc, _+_, _-_, _/_, _%_, _^_}
 use mathlib.Core.Bool.{Bool}
 use mathlib.Core.List.{List, [], _∷_, _++_}
@@ -10,7 +10,7 @@ use Rattle.refusal.specs.Pick.{pick}
 abbrev pub bit : ℕ → ℕ → ℕ
 bit word k = word / 2 ^ k % 2
 
--- bit k of the words, which hold 64 each
+-- bit k of the words, of which each holds 64
 abbrev pub bitAt : List ℕ → ℕ → ℕ
 bitAt words k = bit (getD words (k / 64) 0) (k % 64)
 
@@ -22,15 +22,15 @@ marked word k = pick (eqb (bit word k) 1) word (word + 2 ^ k)
 abbrev pub markedAt : List ℕ → ℕ → List ℕ
 markedAt words k = set words (k / 64) (marked (getD words (k / 64) 0) (k % 64))
 
--- whether the first n bits of a word are set
+-- "all are noted": the first n bits of a word are set
 abbrev pub allNoted : ℕ → ℕ → Bool
 allNoted word n = eqb (word % 2 ^ n) (2 ^ n - 1)
 
--- the first n bits of a word, which has 64; the others are 0
+-- a word with its first n bits alone; it has 64
 abbrev pub lowest : ℕ → ℕ → ℕ
 lowest word n = pick (ltb n 64) (word % 2 ^ n) word
 
--- the first count words keep the first n bits only
+-- the first count words with the first n bits alone, and the others as they are
 unfoldable pub only : ℕ → ℕ → List ℕ → List ℕ
 only n zero words = words
 only n (suc count) [] = []

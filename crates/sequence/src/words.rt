@@ -4,7 +4,7 @@ ghost use Prim.Native.Nat.{_-_, _%_, _^_, _≤_, min};
 ghost use Rattle.sequence.specs.Window.{marked, allNoted, only, shifted};
 
 // The word with the bit of an offset set.
-pub fn mark(word: u64, offset: u64) -> u64
+pub(crate) fn mark(word: u64, offset: u64) -> u64
     ensures { λ r. ⌜ r ≡ marked word (offset % 64) ⌝ }
 {
     word | (1 << (offset % 64))
@@ -22,7 +22,7 @@ fn mask(n: u64) -> u64
 }
 
 // Whether the first n bits of a word are set, all 64 if n is more.
-pub fn all_noted(word: u64, n: u64) -> bool
+pub(crate) fn all_noted(word: u64, n: u64) -> bool
     ensures { λ r. ⌜ r ≡ allNoted word (min 64 n) ⌝ }
 {
     let m = mask(n);
@@ -30,7 +30,7 @@ pub fn all_noted(word: u64, n: u64) -> bool
 }
 
 // Clears the bits from an offset on, in the first words alone.
-pub fn forget(words: &mut [u64; 64], from: u64, count: usize)
+pub(crate) fn forget(words: &mut [u64; 64], from: u64, count: usize)
     requires { ⌜ count ≤ 64 ⌝ }
     ensures { λ r. ⌜ now (words .exit) ≡ only from count (now (words .entry)) ⌝ }
 {
@@ -44,7 +44,7 @@ pub fn forget(words: &mut [u64; 64], from: u64, count: usize)
 }
 
 // Moves the words down by one; a zero comes in at the end.
-pub fn shift(words: &mut [u64])
+pub(crate) fn shift(words: &mut [u64])
     ensures { λ r. ⌜ now (words .exit) ≡ shifted (now (words .entry)) ⌝ }
 {
     let mut i: usize = 0;
