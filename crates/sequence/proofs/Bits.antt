@@ -13,7 +13,7 @@ use Rattle.sequence.proofs.Order.{side}
 use Rattle.sequence.specs.Window.{bit, marked, lowest}
 use Rattle.refusal.specs.Pick.{pick}
 
-pub bit-cases : (w k : ℕ) → (bit w k ≡ 0) ⊎ (bit w k ≡ 1)
+bit-cases : (w k : ℕ) → (bit w k ≡ 0) ⊎ (bit w k ≡ 1)
 bit-cases w k = two (bit w k) (mod-lt (w / 2 ^ k) (lit< tt))
   where
     two : (b : ℕ) → b < 2 → (b ≡ 0) ⊎ (b ≡ 1)

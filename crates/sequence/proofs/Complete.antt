@@ -15,7 +15,7 @@ use Rattle.sequence.proofs.Order.{side}
 use Rattle.sequence.proofs.Bits.{bits-ones}
 use Rattle.sequence.proofs.Window.{first-bit}
 use Rattle.sequence.proofs.Rounds.{rounds-stopped}
-use Rattle.sequence.proofs.Known.{stored-length, known-stored, rounds-length, rounds-rise, rounds-within, known-rounds}
+use Rattle.sequence.proofs.Known.{stored-length, known-stored, rounds-length, rounds-rise, known-rounds}
 use Rattle.sequence.proofs.Notes.{by-cases}
 
 -- what the sequence has as noted are the ids from the first start on that were; the highest is the one before after;
@@ -23,7 +23,6 @@ use Rattle.sequence.proofs.Notes.{by-cases}
 record Stands (first : ℕ) (ids : List ℕ) (after start : ℕ) (words : List ℕ) : Type 0 where
   size : length words ≡ 64
   from : first ≤ start
-  order : start ≤ after
   right : (i : ℕ) → first ≤ i → Known after start words i → In i ids
   whole : (i : ℕ) → In i ids → Known after start words i
   highest : start < after → In (after - 1) ids
@@ -33,7 +32,6 @@ stands-begun : (first : ℕ) (words : List ℕ) → length words ≡ 64 → Stan
 stands-begun first words size = record {
   size = size;
   from = omega arith;
-  order = omega arith;
   right = λ i f k. absurd (none i f k);
   whole = λ i m. absurd (List·Memᴰ·not-nil m);
   highest = λ l. absurd (omega arith);
@@ -58,7 +56,6 @@ module _ {first : ℕ} {ids : List ℕ} {after start : ℕ} {words : List ℕ} (
   stands-noted k enough = record {
     size = rounds-length k past start ws ∙ stored-length after start words (s .size) id over near;
     from = omega (arith, s .from, rises);
-    order = rounds-within k past start ws (omega arith);
     right = λ i f x. added i f (known-stored after start words (s .size) id over near i .0 (known-rounds k past start ws i .0 x));
     whole = λ i m. known-rounds k past start ws i .1 (known-stored after start words (s .size) id over near i .1 (known i (List·Memᴰ·cases-cons m)));
     highest = λ l. ⊎-elim (λ g. List·Memᴰ·head {x = id} (omega arith)) (λ g. List·Memᴰ·tail (Memᴰ·cast (omega arith) (s .highest (omega (arith, rises))))) (side after (id + 1));

@@ -98,9 +98,6 @@ module _ (k after start : ℕ) (words : List ℕ) where
   pub rounds-rise : start ≤ rounds k after start words .start
   rounds-rise = by-rounds after (λ s ws. start ≤ s) (λ s ws l e p. omega arith) k start words (omega arith)
 
-  pub rounds-within : start ≤ after → rounds k after start words .start ≤ after
-  rounds-within h = by-rounds after (λ s ws. s ≤ after) (λ s ws l e p. omega arith) k start words h
-
   pub known-rounds : (i : ℕ) → Known after (rounds k after start words .start) (rounds k after start words .words) i ↔ Known after start words i
   known-rounds i =
       by-rounds after (λ s ws. Known after s ws i ↔ Known after start words i)

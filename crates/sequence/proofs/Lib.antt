@@ -2,11 +2,11 @@ pub mod Order
 pub mod Bits
 pub mod Shifting
 pub mod Clearing
+pub mod Window
 pub mod Rounds
 pub mod Notes
-pub mod Unique
-pub mod Window
 pub mod Known
-pub mod Complete
-pub mod Worked
 pub mod Adds
+pub mod Complete
+pub mod Unique
+pub mod Worked
