@@ -1,7 +1,9 @@
 // Runs the cases of document 01 by the real code, and says what each gave.
+mod ids;
 mod pages;
 mod say;
 
 fn main() {
     pages::run();
+    ids::run();
 }
