@@ -1,2 +1,12 @@
 pub mod Cases
 pub mod Bounding
+pub mod Shifting
+pub mod Rounds
+pub mod Meeting
+pub mod Windows
+pub mod Finding
+pub mod Placing
+pub mod Handing
+pub mod RightRounds
+pub mod LookupRight
+pub mod UniqueLook

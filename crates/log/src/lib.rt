@@ -4,5 +4,7 @@ mod searching;
 mod state;
 
 pub use searching::Look;
+pub use searching::find;
+pub use searching::lookup;
 pub use state::State;
 pub use state::Taken;
