@@ -1,2 +1,5 @@
 pub mod Cases
 pub mod Bounding
+pub mod Recovering
+pub mod Resuming
+pub mod Unique

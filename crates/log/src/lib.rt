@@ -1,8 +1,11 @@
 // The catalog log of document 01 over page's promises: the state, the sound check, recovery, the lookup, the scan and the push.
 mod bounds;
+mod recovery;
 mod searching;
 mod state;
 
+pub use recovery::Recovered;
+pub use recovery::recover;
 pub use searching::Look;
 pub use state::State;
 pub use state::Taken;
