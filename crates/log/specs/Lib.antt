@@ -4,3 +4,5 @@ pub mod Sound
 pub mod Guess
 pub mod Lookup
 pub mod Turns
+pub mod Recover
+pub mod Check

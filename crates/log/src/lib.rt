@@ -1,8 +1,14 @@
 // The catalog log of document 01 over page's promises: the state, the sound check, recovery, the lookup, the scan and the push.
 mod bounds;
+mod checking;
+mod recovery;
 mod searching;
 mod state;
 
+pub use checking::Checked;
+pub use checking::check;
+pub use recovery::Recovered;
+pub use recovery::recover;
 pub use searching::Look;
 pub use searching::find;
 pub use searching::lookup;
