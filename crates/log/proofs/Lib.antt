@@ -1,2 +1,6 @@
 pub mod Cases
 pub mod Bounding
+pub mod Ends
+pub mod Entering
+pub mod Filling
+pub mod Appending

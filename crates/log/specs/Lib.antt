@@ -3,3 +3,4 @@ pub mod State
 pub mod Sound
 pub mod Guess
 pub mod Lookup
+pub mod Push

@@ -1,8 +1,12 @@
 // The catalog log of document 01 over page's promises: the state, the sound check, recovery, the lookup, the scan and the push.
 mod bounds;
+mod pushing;
 mod searching;
 mod state;
 
+pub use pushing::Pushed;
+pub use pushing::Reason;
+pub use pushing::push;
 pub use searching::Look;
 pub use state::State;
 pub use state::Taken;
