@@ -1,10 +1,37 @@
--- What an entry's turn gives in each case, and the entries from it on. Assumes nothing.
+-- A push's tests in their order: what each gives, for the whole batch and at an entry's turn. Assumes nothing.
 use Prim.Native.Nat.{ℕ, suc, _+_, _-_, _^_, _≤_, _<_}
 use mathlib.Core.Path.{_≡_, refl}
+use mathlib.Core.Bool.{true, false}
 use mathlib.Core.List.{List}
 use borrow.Author.Tests.{lt-ltb, le-ltb, le-leb, lt-leb}
 use lib.ListN.{length, getD}
-use Rattle.log.specs.Push.{refused, Point, used, bytesFor, wrote, stop, on, placed, turn, done, entryData, entriesFrom}
+use Rattle.log.specs.Bounds.{badState}
+use Rattle.log.specs.Push.{refused, badBatch, someLarge, Point, begin, used, bytesFor, wrote, stop, on, placed, turn, done, entryData, entriesFrom, pushOf}
+use Rattle.log.specs.declared.state.State.{State}
+
+-- ---- the whole batch
+
+module _ (store : List ℕ) (st : State) (ids ends bytes : List ℕ) where
+  pub refuse-state : badState store (st .length) ≡ true → done (refused 1 0) 0 (begin store st) ≡ pushOf store st ids ends bytes
+  unfolding pushOf
+  refuse-state a = rw a
+
+  module _ (a : badState store (st .length) ≡ false) where
+    pub refuse-batch : badBatch ids ends bytes ≡ true → done (refused 13 0) 0 (begin store st) ≡ pushOf store st ids ends bytes
+    unfolding pushOf
+    refuse-batch b = rw (a, b)
+
+    module _ (b : badBatch ids ends bytes ≡ false) where
+      pub refuse-large : someLarge ends bytes ≡ true → done (refused 16 0) 0 (begin store st) ≡ pushOf store st ids ends bytes
+      unfolding pushOf
+      refuse-large c = rw (a, b, c)
+
+      pub entries-in-turn : someLarge ends bytes ≡ false → entriesFrom ids ends bytes (length ids) 0 (begin store st) ≡ pushOf store st ids ends bytes
+      unfolding pushOf
+      entries-in-turn c = rw (a, b, c)
+
+-- ---- an entry's turn
+
 
 module _ (id : ℕ) (d : List ℕ) (p : Point) where
   turn-order : id ≤ p .state .last → turn id d p ≡ stop 2 p
@@ -24,6 +51,8 @@ module _ (id : ℕ) (d : List ℕ) (p : Point) where
       turn-write : bytesFor d ≤ length (p .store) - p .state .length → turn id d p ≡ on (wrote id d (used id p))
       unfolding turn placed
       turn-write c = rw (lt-leb id (p .state .last) a, lt-leb (2 ^ 24) (8 + length d) b, le-ltb (length (p .store) - p .state .length) (bytesFor d) c)
+
+-- the entries from entry j on
 
 module _ (ids ends bytes : List ℕ) (n j : ℕ) (p : Point) where
   abbrev id : ℕ

@@ -4,3 +4,4 @@ pub mod Ends
 pub mod Entering
 pub mod Filling
 pub mod Appending
+pub mod Batch
