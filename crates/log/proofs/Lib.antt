@@ -15,3 +15,8 @@ pub mod Resuming
 pub mod Unique
 pub mod Turns
 pub mod Passing
+pub mod Ends
+pub mod Entering
+pub mod Filling
+pub mod Appending
+pub mod Batch

@@ -6,3 +6,4 @@ pub mod Lookup
 pub mod Turns
 pub mod Recover
 pub mod Check
+pub mod Push

@@ -9,6 +9,13 @@ pub use checking::Checked;
 pub use checking::check;
 pub use recovery::Recovered;
 pub use recovery::recover;
+mod pushing;
+mod searching;
+mod state;
+
+pub use pushing::Pushed;
+pub use pushing::Reason;
+pub use pushing::push;
 pub use searching::Look;
 pub use searching::find;
 pub use searching::lookup;
