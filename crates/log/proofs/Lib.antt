@@ -5,3 +5,4 @@ pub mod Entering
 pub mod Filling
 pub mod Appending
 pub mod Batch
+pub mod UniquePush
