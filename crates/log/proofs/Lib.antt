@@ -6,3 +6,13 @@ pub mod Filling
 pub mod Appending
 pub mod Batch
 pub mod UniquePush
+pub mod Shifting
+pub mod Rounds
+pub mod Meeting
+pub mod Windows
+pub mod Finding
+pub mod Placing
+pub mod Handing
+pub mod RightRounds
+pub mod LookupRight
+pub mod UniqueLook

@@ -4,3 +4,4 @@ pub mod Sound
 pub mod Guess
 pub mod Lookup
 pub mod Push
+pub mod Turns

@@ -8,5 +8,7 @@ pub use pushing::Pushed;
 pub use pushing::Reason;
 pub use pushing::push;
 pub use searching::Look;
+pub use searching::find;
+pub use searching::lookup;
 pub use state::State;
 pub use state::Taken;
