@@ -16,3 +16,8 @@ pub mod Handing
 pub mod RightRounds
 pub mod LookupRight
 pub mod UniqueLook
+pub mod Recovering
+pub mod Resuming
+pub mod Unique
+pub mod Turns
+pub mod Passing

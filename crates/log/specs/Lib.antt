@@ -5,3 +5,5 @@ pub mod Guess
 pub mod Lookup
 pub mod Push
 pub mod Turns
+pub mod Recover
+pub mod Check

@@ -7,6 +7,15 @@ mod state;
 pub use pushing::Pushed;
 pub use pushing::Reason;
 pub use pushing::push;
+mod checking;
+mod recovery;
+mod searching;
+mod state;
+
+pub use checking::Checked;
+pub use checking::check;
+pub use recovery::Recovered;
+pub use recovery::recover;
 pub use searching::Look;
 pub use searching::find;
 pub use searching::lookup;
