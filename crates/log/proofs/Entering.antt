@@ -32,7 +32,6 @@ module _ (store : List ℕ) (st : State) (ids ends bytes : List ℕ) where
 
 -- ---- an entry's turn
 
-
 module _ (id : ℕ) (d : List ℕ) (p : Point) where
   turn-order : id ≤ p .state .last → turn id d p ≡ stop 2 p
   unfolding turn

@@ -1,5 +1,11 @@
 pub mod Cases
 pub mod Bounding
+pub mod Ends
+pub mod Entering
+pub mod Filling
+pub mod Appending
+pub mod Batch
+pub mod UniquePush
 pub mod Shifting
 pub mod Rounds
 pub mod Meeting
@@ -15,8 +21,3 @@ pub mod Resuming
 pub mod Unique
 pub mod Turns
 pub mod Passing
-pub mod Ends
-pub mod Entering
-pub mod Filling
-pub mod Appending
-pub mod Batch

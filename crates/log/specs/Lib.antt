@@ -3,7 +3,7 @@ pub mod State
 pub mod Sound
 pub mod Guess
 pub mod Lookup
+pub mod Push
 pub mod Turns
 pub mod Recover
 pub mod Check
-pub mod Push

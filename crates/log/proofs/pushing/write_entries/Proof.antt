@@ -79,7 +79,6 @@ returns-2 c =
 count-requires : tie.Need-count-requires Inv-loop μ-loop
 count-requires c κs = omega arith
 
-
 sub-if3 : tie.Need-sub-if3 Inv-loop μ-loop
 sub-if3 c = omega arith
 
