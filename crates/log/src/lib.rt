@@ -1,12 +1,5 @@
 // The catalog log of document 01 over page's promises: the state, the sound check, recovery, the lookup, the scan and the push.
 mod bounds;
-mod pushing;
-mod searching;
-mod state;
-
-pub use pushing::Pushed;
-pub use pushing::Reason;
-pub use pushing::push;
 mod checking;
 mod pushing;
 mod recovery;
