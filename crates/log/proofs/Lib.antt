@@ -1,2 +1,4 @@
 pub mod Cases
 pub mod Bounding
+pub mod Onward
+pub mod Handing

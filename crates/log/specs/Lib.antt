@@ -3,3 +3,5 @@ pub mod State
 pub mod Sound
 pub mod Guess
 pub mod Lookup
+pub mod Range
+pub mod Step

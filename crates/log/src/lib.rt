@@ -1,8 +1,13 @@
 // The catalog log of document 01 over page's promises: the state, the sound check, recovery, the lookup, the scan and the push.
 mod bounds;
+mod scanning;
 mod searching;
 mod state;
 
+pub use scanning::End;
+pub use scanning::Range;
+pub use scanning::Stepped;
+pub use scanning::step;
 pub use searching::Look;
 pub use state::State;
 pub use state::Taken;
