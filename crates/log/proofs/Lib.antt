@@ -2,3 +2,8 @@ pub mod Cases
 pub mod Bounding
 pub mod Onward
 pub mod Handing
+pub mod Shifting
+pub mod Rounds
+pub mod Meeting
+pub mod Windows
+pub mod Finding

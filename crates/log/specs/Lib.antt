@@ -5,3 +5,4 @@ pub mod Guess
 pub mod Lookup
 pub mod Range
 pub mod Step
+pub mod Turns

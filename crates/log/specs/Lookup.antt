@@ -51,18 +51,14 @@ compared id w g s (whole stored len after) =
     (pick (ltb stored id) (again (window (max (g + 1) after) (w .hi) stored (w .b)))
     (again (window (w .lo) s (w .a) stored)))
 
--- "walks back from the guessed page until it meets a start, never below lo; 5 on a bad mark. With none, lo becomes g + 1": from page lo + d
+-- the page s on the way back: "meets a start"; "5 on a bad mark"; else the walk goes on
+unfoldable pub met : List ℕ → ℕ → Window → ℕ → ℕ → Next → Next
+met log id w g s on = byMark (markAt log s) (compared id w g s (entryAt log s)) on (stop (refused 5 s))
+
+-- "walks back from the guessed page until it meets a start, never below lo .. With none, lo becomes g + 1": from page lo + d
 unfoldable pub walk : List ℕ → ℕ → Window → ℕ → ℕ → Next
-walk log id w g zero =
-    byMark (markAt log (w .lo))
-    (compared id w g (w .lo) (entryAt log (w .lo)))
-    (again (window (g + 1) (w .hi) (w .a) (w .b)))
-    (stop (refused 5 (w .lo)))
-walk log id w g (suc d) =
-    byMark (markAt log (w .lo + suc d))
-    (compared id w g (w .lo + suc d) (entryAt log (w .lo + suc d)))
-    (walk log id w g d)
-    (stop (refused 5 (w .lo + suc d)))
+walk log id w g zero = met log id w g (w .lo) (again (window (g + 1) (w .hi) (w .a) (w .b)))
+walk log id w g (suc d) = met log id w g (w .lo + suc d) (walk log id w g d)
 
 -- "While lo < hi" one round; "When the window is empty: absent at hi * 1,024"
 unfoldable pub round : List ℕ → ℕ → Window → Next

@@ -9,5 +9,6 @@ pub use scanning::Range;
 pub use scanning::Stepped;
 pub use scanning::step;
 pub use searching::Look;
+pub use searching::find;
 pub use state::State;
 pub use state::Taken;
