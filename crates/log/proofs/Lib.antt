@@ -1,9 +1,11 @@
 pub mod Cases
 pub mod Bounding
 pub mod Onward
-pub mod Handing
+pub mod Stepping
 pub mod Shifting
 pub mod Rounds
 pub mod Meeting
 pub mod Windows
 pub mod Finding
+pub mod Beginning
+pub mod Listed

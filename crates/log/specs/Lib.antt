@@ -6,3 +6,5 @@ pub mod Lookup
 pub mod Range
 pub mod Step
 pub mod Turns
+pub mod Scan
+pub mod Items

@@ -6,7 +6,9 @@ mod state;
 
 pub use scanning::End;
 pub use scanning::Range;
+pub use scanning::Started;
 pub use scanning::Stepped;
+pub use scanning::scan;
 pub use scanning::step;
 pub use searching::Look;
 pub use searching::find;

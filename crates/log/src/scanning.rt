@@ -1,5 +1,7 @@
 // The scan: a range of ids, where it starts, and its steps forward through the log.
 use crate::bounds;
+use crate::searching;
+use crate::searching::Look;
 use crate::state::State;
 use page::Entry;
 use page::Mark;
@@ -8,7 +10,9 @@ use refusal::Refusal;
 ghost use mathlib.Core.Path.{_≡_};
 ghost use Prim.Native.Nat.{_<_};
 ghost use Rattle.page.specs.Size.{pageCount};
+ghost use Rattle.log.specs.Lookup.{findOf};
 ghost use Rattle.log.specs.Range.{aboveLower, belowUpper, holdsOf};
+ghost use Rattle.log.specs.Scan.{placed, scanOf, paperStarted};
 ghost use Rattle.log.specs.Step.{atStart, pageOf, forwardFrom, advanceOf, stepOf, paperSeen, paperReached, paperStepped};
 
 // One end of a range of ids.
@@ -54,6 +58,42 @@ fn is_below(upper: End, id: u64) -> bool
         End::Open => true,
         End::Included(b) => id <= b,
         End::Excluded(b) => id < b,
+    }
+}
+
+// The cursor of a scan's first step, or a refusal.
+pub enum Started {
+    At { cursor: u64 },
+    Refused(Refusal),
+}
+
+// The position that the search for an id gives, found or absent.
+fn place(store: &[u8], state: State, id: u64) -> Started
+    ensures { λ r. ⌜ paperStarted r ≡ placed (findOf (now (store .entry)) state id) ⌝ }
+{
+    let look = searching::find(store, state, id);
+    match look {
+        Look::Found {
+            position,
+            length: _,
+        } => Started::At { cursor: position },
+        Look::Absent { position } => Started::At { cursor: position },
+        Look::Refused(r) => Started::Refused(r),
+    }
+}
+
+// Where a scan of the range starts. Nothing is copied.
+pub fn scan(store: &[u8], state: State, range: Range) -> Started
+    ensures { λ r. ⌜ paperStarted r ≡ scanOf (now (store .entry)) state range ⌝ }
+{
+    if bounds::is_bad_state(store, state.length) {
+        return Started::Refused(Refusal::BadState);
+    }
+    let lower = range.lower;
+    match lower {
+        End::Open => Started::At { cursor: 0 },
+        End::Included(id) => place(store, state, id),
+        End::Excluded(id) => place(store, state, id),
     }
 }
 

@@ -4,7 +4,7 @@ use native.Mathlib.Omega.{arith}
 use borrow.Author.Needs.{needs}
 use Rattle.log.specs.Step.{met, forwardFrom, paperReached}
 use Rattle.log.proofs.Onward.{Lies, lies}
-use Rattle.log.proofs.Handing.{owes, owes-out, advance-fault, advance-end, advance-small, advance-entry}
+use Rattle.log.proofs.Stepping.{owes, owes-out, advance-fault, advance-end, advance-small, advance-entry}
 use Rattle.log.proofs.scanning.advance.Statement.{statement}
 use Rattle.log.proofs.scanning.advance.Tie as tie
 

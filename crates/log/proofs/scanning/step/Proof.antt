@@ -2,7 +2,7 @@
 use mathlib.Core.Path.{_≡_, sym, _∙_}
 use borrow.Author.Needs.{needs}
 use Rattle.log.proofs.Bounding.{good, length-log}
-use Rattle.log.proofs.Handing.{owes, owes-same, step-bad-state, step-bad-cursor, step-open}
+use Rattle.log.proofs.Stepping.{owes, owes-same, step-bad-state, step-bad-cursor, step-open}
 use Rattle.log.proofs.scanning.step.Statement.{statement}
 use Rattle.log.proofs.scanning.step.Tie as tie
 

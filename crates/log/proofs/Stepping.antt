@@ -8,7 +8,6 @@ use lib.ListN.{length, take, drop}
 use Rattle.page.specs.Size.{pageSize}
 use Rattle.page.specs.Data.{dataAt}
 use Rattle.log.specs.Bounds.{badState, badCursor}
-use Rattle.log.specs.Range.{holdsOf}
 use Rattle.log.specs.Step.{met, none, faulty, forwardFrom, Stepping, entry, end, refused, Given, given, handedOver, advanceOf, stepOf}
 use Rattle.log.specs.declared.state.State.{State}
 use Rattle.log.specs.declared.scanning.Range.{Range}
