@@ -7,7 +7,7 @@ use borrow.Author.Tests.{eq-eqb, ne-eqb, le-leb, lt-leb}
 use lib.ListN.{length, take}
 use Rattle.page.specs.Size.{pageCount}
 use Rattle.log.specs.Bounds.{badState}
-use Rattle.log.specs.Lookup.{Looking, absent, refused, window, search, searchOf, findOf}
+use Rattle.log.specs.Lookup.{Looking, absent, refused, allPages, search, searchOf, findOf}
 use Rattle.log.specs.declared.state.State.{State}
 use Rattle.log.proofs.Bounding.{good, length-log}
 
@@ -21,7 +21,7 @@ module _ (log : List ℕ) (next id : ℕ) where
     unfolding searchOf
     search-late l = rw (ne-eqb id 0 some, le-leb next id l)
 
-    pub search-all : id < next → searchOf log next id ≡ search log id (pageCount log) (window 0 (pageCount log) 0 next)
+    pub search-all : id < next → searchOf log next id ≡ search log id (pageCount log) (allPages log next)
     unfolding searchOf
     search-all l = rw (ne-eqb id 0 some, lt-leb next id l)
 

@@ -9,3 +9,8 @@ pub mod Windows
 pub mod Finding
 pub mod Beginning
 pub mod Listed
+pub mod Placing
+pub mod Handing
+pub mod RightRounds
+pub mod LookupRight
+pub mod UniqueLook

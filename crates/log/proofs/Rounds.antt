@@ -1,17 +1,19 @@
--- What a page, a walk back, a round and the rounds of a search give, and that each round leaves a smaller window. Assumes nothing.
+-- What a page, a walk back, a round and the rounds of a search give; on any log each round leaves a smaller window or finds a whole entry. Assumes nothing.
 use Prim.Native.Nat.{ℕ, zero, suc, _+_, _-_, _*_, _≤_, _<_}
-use mathlib.Core.Path.{_≡_, refl, subst}
+use mathlib.Core.Path.{_≡_, refl, sym, _∙_}
 use mathlib.Core.Logic.{⊎-elim}
 use mathlib.Core.List.{List}
 use native.Mathlib.Omega.{arith}
 use borrow.Author.Tests.{lt-ltb, le-ltb, eq-eqb, ne-eqb}
-use Rattle.page.specs.Size.{pageSize}
+use Rattle.page.specs.Size.{pageSize, pageCount}
 use Rattle.page.specs.Mark.{markAt, byMark}
-use Rattle.page.specs.Entry.{Starting, whole, refused as torn, entryAt}
+use Rattle.page.specs.Entry.{Starting, whole, refused as torn, lengthAt, idAt, afterAt, entryAt}
+use Rattle.page.proofs.Starting.{is-whole}
 use Rattle.page.proofs.Marking.{IsBad, by-start, by-later, by-bad, mark-cases}
 use Rattle.log.specs.Guess.{offsetOf}
-use Rattle.log.specs.Lookup.{Looking, absent, refused, Window, window, Next, stop, again, compared, met, walk, round, follow, search}
-use Rattle.log.proofs.Cases.{order}
+use Rattle.log.specs.Sound.{Start, Stored}
+use Rattle.log.specs.Lookup.{Looking, found, absent, refused, Window, window, Next, stop, again, offsetIn, compared, met, walk, round, follow, search}
+use Rattle.log.proofs.Cases.{order, side}
 
 -- ---- a page on the way back
 
@@ -41,7 +43,7 @@ module _ (log : List ℕ) (id : ℕ) (w : Window) where
   walk-at g zero s e = let q : s ≡ w .lo = omega arith in rw q
   walk-at g (suc d) s e = rw e
 
-  pub round-open : (o : ℕ) → w .lo < w .hi → o ≡ offsetOf (id - w .a) (w .b - w .a) (w .hi - w .lo) → round log id w ≡ walk log id w (w .lo + o) o
+  pub round-open : (o : ℕ) → w .lo < w .hi → o ≡ offsetIn id w → round log id w ≡ walk log id w (w .lo + o) o
   unfolding round
   round-open o h e = rw (lt-ltb (w .lo) (w .hi) h, ← e)
 
@@ -58,67 +60,117 @@ pub offset-below : (x y w : ℕ) → 0 < w → offsetOf x y w < w
 unfolding offsetOf
 offset-below x y w h = omega arith
 
--- ---- each round leaves a smaller window, with the id still between its two
+-- ---- what a round comes to on any log
 
+-- the id lies between the window's two
 pub record Between (id : ℕ) (w : Window) : Type 0 where
   pub above : w .a < id
   pub under : id < w .b
 
+-- the window v is smaller than w, inside it, and the id still lies between its two
 pub record Smaller (id : ℕ) (w v : Window) : Type 0 where
   pub between : Between id v
   pub less : v .hi - v .lo < w .hi - w .lo
   pub top : v .hi ≤ w .hi
 
-Shrinks : ℕ → Window → Next → Type 0
-Shrinks id w (stop r) = Unit {0}
-Shrinks id w (again v) = Smaller id w v
+-- a whole entry with the id starts at the position
+pub record Held (log : List ℕ) (id position len : ℕ) : Type 0 where
+  pub stored : Stored log id position len
+  pub long : 8 ≤ lengthAt log (stored .page)
+  pub within : afterAt log (stored .page) ≤ pageCount log
 
-module _ (log : List ℕ) (id : ℕ) (w : Window) (b : Between id w) where
-  ends : (r : Looking) → Shrinks id w (stop r)
-  unfolding Shrinks
-  ends r = tt
+-- the position is a page's, or the log's end
+pub record Edge (log : List ℕ) (position : ℕ) : Type 0 where
+  pub page : ℕ
+  pub at-page : position ≡ page * pageSize
+  pub inside : page ≤ pageCount log
 
-  goes-on : (v : Window) → Smaller id w v → Shrinks id w (again v)
-  unfolding Shrinks
+-- what an answer says of any log
+abbrev pub Placed : List ℕ → ℕ → Looking → Type 0
+Placed log id (found position len) = Held log id position len
+Placed log id (absent position) = Edge log position
+Placed log id (refused number value) = Unit {0}
+
+Comes : List ℕ → ℕ → Window → Next → Type 0
+Comes log id w (stop r) = Placed log id r
+Comes log id w (again v) = Smaller id w v
+
+module _ (log : List ℕ) (id : ℕ) (w : Window) (b : Between id w) (top : w .hi ≤ pageCount log) where
+  ends : (r : Looking) → Placed log id r → Comes log id w (stop r)
+  unfolding Comes
+  ends r h = h
+
+  goes-on : (v : Window) → Smaller id w v → Comes log id w (again v)
+  unfolding Comes
   goes-on v h = h
 
   module _ (g : ℕ) (g-below : g < w .hi) where
-    compared-shrinks : (s : ℕ) → w .lo ≤ s → s ≤ g → (x : Starting) → Shrinks id w (compared id w g s x)
+    compared-comes : (s : ℕ) → w .lo ≤ s → s ≤ g → markAt log s ≡ 1 → (x : Starting) → entryAt log s ≡ x → Comes log id w (compared id w g s x)
     unfolding compared
-    compared-shrinks s l u (torn number value) = ends (refused number value)
-    compared-shrinks s l u (whole stored len after) = ⊎-elim
-        (λ e. rw (eq-eqb stored id e) (ends _))
+    compared-comes s l u m (torn number value) q = ends (refused number value) tt
+    compared-comes s l u m (whole stored len after) q = ⊎-elim
+        (λ e. rw (eq-eqb stored id e) (ends (found (s * pageSize) (len - 8)) (held e)))
         (⊎-elim
         (λ e. rw (ne-eqb stored id (λ z. omega arith), lt-ltb stored id e)
         (goes-on _ (record { between = record { above = e; under = b .under }; less = omega arith; top = omega arith })))
         (λ e. rw (ne-eqb stored id (λ z. omega arith), le-ltb stored id (omega arith))
         (goes-on _ (record { between = record { above = b .above; under = e }; less = omega arith; top = omega arith }))))
         (order stored id)
+      where
+        held : stored ≡ id → Held log id (s * pageSize) (len - 8)
+        held e =
+            let x = is-whole q in
+            let n : lengthAt log s ≡ len = sym (x .len-is) in
+            record {
+              stored = record { page = s; start = record { inside = omega arith; marked = m }; has = sym (x .id-is) ∙ e; at-page = refl; size = rw n };
+              long = rw n (x .long);
+              within = rw n (omega (arith, x .within, x .after-is));
+            }
 
-    met-shrinks : (s : ℕ) → w .lo ≤ s → s ≤ g → (on : Next) → Shrinks id w on → Shrinks id w (met log id w g s on)
-    met-shrinks s l u on h = ⊎-elim
-        (λ m. rw (met-start log id w g s on m) (compared-shrinks s l u (entryAt log s)))
-        (⊎-elim (λ m. rw (met-later log id w g s on m) h) (λ m. rw (met-bad log id w g s on m) (ends (refused 5 s))))
+    met-comes : (s : ℕ) → w .lo ≤ s → s ≤ g → (on : Next) → Comes log id w on → Comes log id w (met log id w g s on)
+    met-comes s l u on h = ⊎-elim
+        (λ m. rw (met-start log id w g s on m) (compared-comes s l u m (entryAt log s) refl))
+        (⊎-elim (λ m. rw (met-later log id w g s on m) h) (λ m. rw (met-bad log id w g s on m) (ends (refused 5 s) tt)))
         (mark-cases (markAt log s))
 
-    walk-shrinks : (d : ℕ) → w .lo + d ≤ g → Shrinks id w (walk log id w g d)
-    walk-shrinks zero u =
+    walk-comes : (d : ℕ) → w .lo + d ≤ g → Comes log id w (walk log id w g d)
+    walk-comes zero u =
         rw (walk-at log id w g zero (w .lo) (omega arith))
-        (met-shrinks (w .lo) (omega arith) (omega arith) _ (goes-on (window (g + 1) (w .hi) (w .a) (w .b)) (record {
+        (met-comes (w .lo) (omega arith) (omega arith) _ (goes-on (window (g + 1) (w .hi) (w .a) (w .b)) (record {
           between = record { above = b .above; under = b .under };
           less = omega arith;
           top = omega arith;
         })))
-    walk-shrinks (suc d) u =
+    walk-comes (suc d) u =
         rw (walk-at log id w g (suc d) (w .lo + suc d) refl)
-        (met-shrinks (w .lo + suc d) (omega arith) u _ (walk-shrinks d (omega arith)))
+        (met-comes (w .lo + suc d) (omega arith) u _ (walk-comes d (omega arith)))
 
-  round-shrinks : w .lo < w .hi → Shrinks id w (round log id w)
-  round-shrinks l =
-      let o = offsetOf (id - w .a) (w .b - w .a) (w .hi - w .lo) in
+  round-comes : w .lo < w .hi → Comes log id w (round log id w)
+  round-comes l =
+      let o = offsetIn id w in
       let m : o < w .hi - w .lo = offset-below (id - w .a) (w .b - w .a) (w .hi - w .lo) (omega arith) in
-      rw (round-open log id w o l refl) (walk-shrinks (w .lo + o) (omega arith) o (omega arith))
+      rw (round-open log id w o l refl) (walk-comes (w .lo + o) (omega arith) o (omega arith))
 
   pub smaller : (v : Window) → w .lo < w .hi → round log id w ≡ again v → Smaller id w v
-  unfolding Shrinks
-  smaller v l e = rw e at (round-shrinks l)
+  unfolding Comes
+  smaller v l e = rw e at (round-comes l)
+
+-- ---- and so what the rounds answer
+
+module _ (log : List ℕ) (id : ℕ) where
+  at-end : (w : Window) → w .hi ≤ pageCount log → Edge log (w .hi * pageSize)
+  at-end w top = record { page = w .hi; at-page = refl; inside = top }
+
+  followed : (k : ℕ) (w : Window) (x : Next) → w .hi ≤ pageCount log → Comes log id w x
+      → ((v : Window) → Between id v → v .hi ≤ pageCount log → Placed log id (search log id k v)) → Placed log id (follow (search log id k) x)
+  unfolding Comes
+  followed k w (stop r) top h rest = h
+  followed k w (again v) top h rest = rest v (h .between) (omega (arith, h .top))
+
+  pub search-placed : (k : ℕ) (w : Window) → Between id w → w .hi ≤ pageCount log → Placed log id (search log id k w)
+  unfolding search
+  search-placed zero w b top = at-end w top
+  search-placed (suc k) w b top = ⊎-elim
+      (λ l. followed k w (round log id w) top (round-comes log id w b top l) (λ v c t. search-placed k v c t))
+      (λ l. rw (search-stop log id w (suc k) l) (at-end w top))
+      (side (w .lo) (w .hi))

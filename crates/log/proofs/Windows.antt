@@ -40,7 +40,7 @@ module _ {log : List ℕ} {next id lo hi a b : ℕ} {answer : Look} (h : Open lo
   narrowed lo′ hi′ a′ b′ answer′ l e sh = go (h .fuel) (h .enough) (h .same)
     where
       s : Smaller id w (window lo′ hi′ a′ b′)
-      s = smaller log id w (h .between) (window lo′ hi′ a′ b′) l e
+      s = smaller log id w (h .between) (h .top) (window lo′ hi′ a′ b′) l e
 
       go : (k : ℕ) → hi ≤ lo + k → searchOf log next id ≡ search log id k w → Open log next id lo′ hi′ a′ b′ answer′
       go zero m q = absurd (omega arith)

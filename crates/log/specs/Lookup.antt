@@ -1,5 +1,6 @@
 -- 01, "Lookup", step by step.
-use Prim.Native.Nat.{ℕ, zero, suc, _+_, _-_, _*_, _/_, max}
+use Prim.Native.Nat.{ℕ, zero, suc, _+_, _-_, _*_, _/_, _≤_, max}
+use mathlib.Core.Path.{_≡_}
 use mathlib.Core.List.{List, _++_}
 use lib.Dec.{ltb, leb, eqb}
 use lib.ListN.{length, take, drop}
@@ -38,6 +39,18 @@ pub record Window : Type 0 where
 abbrev pub window : ℕ → ℕ → ℕ → ℕ → Window
 window lo hi a b = record { lo = lo; hi = hi; a = a; b = b }
 
+-- "lo = 0 to hi (not included) = all pages, and two ids, a = 0 and b = next"
+abbrev pub allPages : List ℕ → ℕ → Window
+allPages log next = window 0 (pageCount log) 0 next
+
+-- "y = b - a and x = id - a .. With W = hi - lo": how far above lo the guess lies
+abbrev pub offsetIn : ℕ → Window → ℕ
+offsetIn id w = offsetOf (id - w .a) (w .b - w .a) (w .hi - w .lo)
+
+-- the guessed page
+abbrev pub guessIn : ℕ → Window → ℕ
+guessIn id w = w .lo + offsetIn id w
+
 -- what a round says: the answer, or the next window
 pub data Next : Type 0 where
   stop : Looking → Next
@@ -64,7 +77,7 @@ walk log id w g (suc d) = met log id w g (w .lo + suc d) (walk log id w g d)
 unfoldable pub round : List ℕ → ℕ → Window → Next
 round log id w =
     pick (ltb (w .lo) (w .hi))
-    (let o = offsetOf (id - w .a) (w .b - w .a) (w .hi - w .lo) in walk log id w (w .lo + o) o)
+    (walk log id w (guessIn id w) (offsetIn id w))
     (stop (absent (w .hi * pageSize)))
 
 abbrev pub follow : (Window → Looking) → Next → Looking
@@ -76,12 +89,12 @@ unfoldable pub search : List ℕ → ℕ → ℕ → Window → Looking
 search log id zero w = absent (w .hi * pageSize)
 search log id (suc k) w = follow (search log id k) (round log id w)
 
--- "Id 0 is absent at position 0. An id not below next is absent at `length`, even if stored. Otherwise .. lo = 0 to hi .. = all pages, and two ids, a = 0 and b = next"
+-- "Id 0 is absent at position 0. An id not below next is absent at `length`, even if stored. Otherwise hold a window of pages"
 unfoldable pub searchOf : List ℕ → ℕ → ℕ → Looking
 searchOf log next id =
     pick (eqb id 0) (absent 0)
     (pick (leb next id) (absent (length log))
-    (search log id (pageCount log) (window 0 (pageCount log) 0 next)))
+    (search log id (pageCount log) (allPages log next)))
 
 -- "Refusal 1 first"
 unfoldable pub findOf : List ℕ → State → ℕ → Looking
@@ -111,3 +124,13 @@ abbrev pub Right : List ℕ → ℕ → Looking → Type 0
 Right log id (found position len) = Stored log id position len
 Right log id (absent position) = Missing log id position
 Right log id (refused number value) = ⊥
+
+-- "with enough buffer": the output holds the data of the entry with that id, if there is one
+abbrev pub Room : List ℕ → ℕ → List ℕ → Type 0
+Room log id out = (position len : ℕ) → Stored log id position len → len ≤ length out
+
+-- a right answer, and after it the output: "the data is copied to its front, the rest unchanged"
+abbrev pub RightLook : List ℕ → ℕ → List ℕ → Looking → List ℕ → Type 0
+RightLook log id out (found position len) after = (entry : Stored log id position len) × (after ≡ dataAt log (entry .page) len ++ drop len out)
+RightLook log id out (absent position) after = Missing log id position × (after ≡ out)
+RightLook log id out (refused number value) after = ⊥

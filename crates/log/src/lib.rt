@@ -12,5 +12,6 @@ pub use scanning::scan;
 pub use scanning::step;
 pub use searching::Look;
 pub use searching::find;
+pub use searching::lookup;
 pub use state::State;
 pub use state::Taken;

@@ -10,7 +10,7 @@ ghost use Prim.Native.Nat.{_≤_, _<_, _^_};
 ghost use lib.ListN.{length};
 ghost use Rattle.page.specs.Size.{pageCount};
 ghost use Rattle.log.specs.Guess.{offsetOf};
-ghost use Rattle.log.specs.Lookup.{searchOf, findOf, paperLook};
+ghost use Rattle.log.specs.Lookup.{searchOf, findOf, looked, lookupOf, paperLook};
 ghost use Rattle.log.specs.Turns.{Says};
 
 // Found with its data length, absent where it would stand, or a refusal.
@@ -141,4 +141,20 @@ pub fn find(store: &[u8], state: State, id: u64) -> Look
     }
     let n = state.length as usize;
     search(&store[..n], state.next, id)
+}
+
+// Finds an id, and copies its data to the front of `out`.
+pub fn lookup(store: &[u8], state: State, id: u64, out: &mut [u8]) -> Look
+    ensures { λ r. ⌜ looked (paperLook r) (now (out .exit)) ≡ lookupOf (now (store .entry)) state id (now (out .entry)) ⌝ }
+{
+    let look = find(store, state, id);
+    if let Look::Found { position, length } = look {
+        if (out.len() as u64) < length {
+            return Look::Refused(Refusal::BufferSmall { needed: length });
+        }
+        let n = state.length as usize;
+        let s = (position as usize) / Page::SIZE;
+        page::copy_data(&store[..n], s, length as usize, out);
+    }
+    look
 }
