@@ -14,3 +14,5 @@ pub mod Handing
 pub mod RightRounds
 pub mod LookupRight
 pub mod UniqueLook
+pub mod Handed
+pub mod ScanRight
