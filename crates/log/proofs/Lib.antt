@@ -16,3 +16,5 @@ pub mod LookupRight
 pub mod UniqueLook
 pub mod Handed
 pub mod ScanRight
+pub mod UniqueScan
+pub mod Refusing

@@ -1,6 +1,6 @@
 -- What a step hands over, and that refusal 1 comes first. Assumes nothing.
 use Prim.Native.Nat.{ℕ, _*_, _/_, _≤_, _<_}
-use mathlib.Core.Path.{_≡_, refl}
+use mathlib.Core.Path.{_≡_}
 use mathlib.Core.Bool.{true, false}
 use mathlib.Core.List.{List, _++_}
 use borrow.Author.Tests.{lt-ltb, le-ltb}
@@ -8,19 +8,9 @@ use lib.ListN.{length, take, drop}
 use Rattle.page.specs.Size.{pageSize}
 use Rattle.page.specs.Data.{dataAt}
 use Rattle.log.specs.Bounds.{badState, badCursor}
-use Rattle.log.specs.Step.{met, none, faulty, forwardFrom, Stepping, entry, end, refused, Given, given, handedOver, advanceOf, stepOf}
+use Rattle.log.specs.Step.{met, none, faulty, forwardFrom, entry, end, refused, given, handedOver, advanceOf, stepOf}
 use Rattle.log.specs.declared.state.State.{State}
 use Rattle.log.specs.declared.scanning.Range.{Range}
-
--- what the code owes of an answer and of the output
-pub owes : (g : Given) (r : Stepping) (out : List ℕ) → g ≡ given r out → (r ≡ g .answer) × (out ≡ g .out)
-owes g r out e = rw e (refl, refl)
-
-pub owes-out : (g : Given) (r : Stepping) (out out′ : List ℕ) → g ≡ given r out → out′ ≡ out → (r ≡ g .answer) × (out′ ≡ g .out)
-owes-out g r out out′ e f = rw (e, f) (refl, refl)
-
-pub owes-same : (g h : Given) (r : Stepping) (out : List ℕ) → g ≡ h → r ≡ h .answer → out ≡ h .out → (r ≡ g .answer) × (out ≡ g .out)
-owes-same g h r out e a b = rw e (a, b)
 
 module _ (log : List ℕ) (range : Range) (from : ℕ) (out : List ℕ) where
   pub advance-fault : (n v : ℕ) → faulty n v ≡ forwardFrom log range from → advanceOf log range from out ≡ given (refused n v) out

@@ -13,7 +13,7 @@ ghost use Rattle.page.specs.Size.{pageCount};
 ghost use Rattle.log.specs.Lookup.{findOf};
 ghost use Rattle.log.specs.Range.{aboveLower, belowUpper, holdsOf};
 ghost use Rattle.log.specs.Scan.{placed, scanOf, paperStarted};
-ghost use Rattle.log.specs.Step.{atStart, pageOf, forwardFrom, advanceOf, stepOf, paperSeen, paperReached, paperStepped};
+ghost use Rattle.log.specs.Step.{atStart, pageOf, forwardFrom, given, advanceOf, stepOf, paperSeen, paperReached, paperStepped};
 
 // One end of a range of ids.
 pub enum End {
@@ -178,8 +178,7 @@ pub enum Stepped {
 
 // A step within the log: only the entry that it comes to is copied.
 fn advance(log: &[u8], range: Range, from: usize, out: &mut [u8]) -> Stepped
-    ensures answer { λ r. ⌜ paperStepped r ≡ advanceOf (now (log .entry)) range from (now (out .entry)) .answer ⌝ }
-    ensures copied { λ r. ⌜ now (out .exit) ≡ advanceOf (now (log .entry)) range from (now (out .entry)) .out ⌝ }
+    ensures { λ r. ⌜ given (paperStepped r) (now (out .exit)) ≡ advanceOf (now (log .entry)) range from (now (out .entry)) ⌝ }
 {
     let reached = forward(log, range, from);
     match reached {
@@ -210,8 +209,7 @@ fn advance(log: &[u8], range: Range, from: usize, out: &mut [u8]) -> Stepped
 
 // One step from a cursor. A refusal leaves the output as it was, and the caller keeps its cursor.
 pub fn step(store: &[u8], state: State, range: Range, cursor: u64, out: &mut [u8]) -> Stepped
-    ensures answer { λ r. ⌜ paperStepped r ≡ stepOf (now (store .entry)) state range cursor (now (out .entry)) .answer ⌝ }
-    ensures copied { λ r. ⌜ now (out .exit) ≡ stepOf (now (store .entry)) state range cursor (now (out .entry)) .out ⌝ }
+    ensures { λ r. ⌜ given (paperStepped r) (now (out .exit)) ≡ stepOf (now (store .entry)) state range cursor (now (out .entry)) ⌝ }
 {
     let length = state.length;
     if bounds::is_bad_state(store, length) {

@@ -2,9 +2,9 @@
 use mathlib.Core.Path.{_≡_, sym, ap, _∙_}
 use native.Mathlib.Omega.{arith}
 use borrow.Author.Needs.{needs}
-use Rattle.log.specs.Step.{met, forwardFrom, paperReached}
+use Rattle.log.specs.Step.{met, forwardFrom, given, paperReached}
 use Rattle.log.proofs.Onward.{Lies, lies}
-use Rattle.log.proofs.Stepping.{owes, owes-out, advance-fault, advance-end, advance-small, advance-entry}
+use Rattle.log.proofs.Stepping.{advance-fault, advance-end, advance-small, advance-entry}
 use Rattle.log.proofs.scanning.advance.Statement.{statement}
 use Rattle.log.proofs.scanning.advance.Tie as tie
 
@@ -30,7 +30,7 @@ held : (c : tie.After-reached2) → Lies (c .before .before .before .before .bef
 held c = lies _ _ _ _ _ _ _ (sym (is-met c))
 
 returns : tie.Need-returns
-returns c = owes _ _ _ (advance-small _ _ _ _ _ _ _ _ (is-met (c .before .before)) (c .if1 .taken))
+returns c = sym (advance-small _ _ _ _ _ _ _ _ (is-met (c .before .before)) (omega arith))
 
 copy-data-requires : tie.Need-copy-data-requires
 copy-data-requires c κs = (omega arith, held (c .before .before .before) .room)
@@ -39,10 +39,10 @@ mul-t14 : tie.Need-mul-t14
 mul-t14 c = omega (arith, held (c .before .before .before .before .before .before) .ends)
 
 returns-2 : tie.Need-returns-2
-returns-2 c = owes _ _ _ (advance-fault _ _ _ _ _ _ (sym (ap paperReached (c .before .reached .given .1)) ∙ c .before .before .before .forward .ensures))
+returns-2 c = sym (advance-fault _ _ _ _ _ _ (sym (ap paperReached (c .before .reached .given .1)) ∙ c .before .before .before .forward .ensures))
 
 returns-3 : tie.Need-returns-3
-returns-3 c = owes _ _ _ (advance-end _ _ _ _ (sym (ap paperReached (c .enum-told .given .1)) ∙ c .before .before .forward .ensures))
+returns-3 c = sym (advance-end _ _ _ _ (sym (ap paperReached (c .enum-told .given .1)) ∙ c .before .before .forward .ensures))
 
 same-length : tie.Need-same-length
 same-length c = search needs
@@ -50,7 +50,7 @@ same-length c = search needs
 returns-4 : tie.Need-returns-4
 returns-4 c =
     let at-met = c .before .before .before .before .before .before in
-    owes-out _ _ _ _ (advance-entry _ _ _ _ _ _ _ _ (is-met at-met) (c .before .before .before .before .if1 .left)) (c .before .before .copy-data .ensures)
+    ap (given _) (c .before .before .copy-data .ensures) ∙ sym (advance-entry _ _ _ _ _ _ _ _ (is-met at-met) (omega arith))
 
 pub advance-spec : {M : Type 1} → statement M
 advance-spec =
