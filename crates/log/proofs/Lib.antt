@@ -6,11 +6,15 @@ pub mod Filling
 pub mod Appending
 pub mod Batch
 pub mod UniquePush
+pub mod Onward
+pub mod Stepping
 pub mod Shifting
 pub mod Rounds
 pub mod Meeting
 pub mod Windows
 pub mod Finding
+pub mod Beginning
+pub mod Listed
 pub mod Placing
 pub mod Handing
 pub mod RightRounds
@@ -21,3 +25,7 @@ pub mod Resuming
 pub mod Unique
 pub mod Turns
 pub mod Passing
+pub mod Handed
+pub mod ScanRight
+pub mod UniqueScan
+pub mod Refusing

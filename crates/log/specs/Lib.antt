@@ -7,3 +7,8 @@ pub mod Push
 pub mod Turns
 pub mod Recover
 pub mod Check
+pub mod Range
+pub mod Step
+pub mod Turns
+pub mod Scan
+pub mod Items

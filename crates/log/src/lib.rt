@@ -13,6 +13,16 @@ pub use pushing::Reason;
 pub use pushing::push;
 pub use recovery::Recovered;
 pub use recovery::recover;
+mod scanning;
+mod searching;
+mod state;
+
+pub use scanning::End;
+pub use scanning::Range;
+pub use scanning::Started;
+pub use scanning::Stepped;
+pub use scanning::scan;
+pub use scanning::step;
 pub use searching::Look;
 pub use searching::find;
 pub use searching::lookup;
