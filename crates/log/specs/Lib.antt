@@ -9,6 +9,5 @@ pub mod Recover
 pub mod Check
 pub mod Range
 pub mod Step
-pub mod Turns
 pub mod Scan
 pub mod Items

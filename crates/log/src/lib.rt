@@ -3,6 +3,7 @@ mod bounds;
 mod checking;
 mod pushing;
 mod recovery;
+mod scanning;
 mod searching;
 mod state;
 
@@ -13,10 +14,6 @@ pub use pushing::Reason;
 pub use pushing::push;
 pub use recovery::Recovered;
 pub use recovery::recover;
-mod scanning;
-mod searching;
-mod state;
-
 pub use scanning::End;
 pub use scanning::Range;
 pub use scanning::Started;
