@@ -29,3 +29,6 @@ pub mod Handed
 pub mod ScanRight
 pub mod UniqueScan
 pub mod Refusing
+pub mod Lasting
+pub mod Moving
+pub mod Demands
