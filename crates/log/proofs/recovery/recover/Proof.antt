@@ -1,0 +1,45 @@
+-- `recover` meets its contract. Assumes nothing.
+use mathlib.Core.Path.{sym, _∙_}
+use native.Mathlib.Omega.{arith}
+use Rattle.log.proofs.Bounding.{fits}
+use Rattle.log.proofs.Recovering.{length-cut, cut-pages, recover-bad, recover-fresh, recover-tail}
+use borrow.Author.Needs.{needs}
+use Rattle.log.proofs.recovery.recover.Statement.{statement}
+use Rattle.log.proofs.recovery.recover.Tie as tie
+
+is-too-long-requires : tie.Need-is-too-long-requires
+is-too-long-requires c κs = search needs
+
+returns : tie.Need-returns
+returns c = recover-bad _ _ (sym (c .before .is-too-long .ensures) ∙ c .if1 .taken)
+
+sub-whole : tie.Need-sub-whole
+sub-whole c = search needs
+
+fresh-requires : tie.Need-fresh-requires
+fresh-requires c κs = search needs
+
+returns-2 : tie.Need-returns-2
+returns-2 c = recover-fresh _ _ (sym (c .before .before .before .is-too-long .ensures) ∙ c .before .before .if1 .left) (omega arith) _ (c .fresh .ensures)
+
+slice-aggregate-walk-back : tie.Need-slice-aggregate-walk-back
+slice-aggregate-walk-back c = sym (length-cut _ _ (fits _ _ (sym (c .before .before .before .is-too-long .ensures) ∙ c .before .before .if1 .left) .inside))
+
+walk-back-requires : tie.Need-walk-back-requires
+walk-back-requires c κs = cut-pages _ _ (sym (c .before .before .before .is-too-long .ensures) ∙ c .before .before .if1 .left) (λ e. omega arith)
+
+returns-3 : tie.Need-returns-3
+returns-3 c = c .walk-back .ensures ∙ recover-tail _ _ (sym (c .before .before .before .before .is-too-long .ensures) ∙ c .before .before .before .if1 .left) (λ e. omega arith)
+
+pub recover-spec : {M : Type 1} → statement M
+recover-spec =
+    tie.close
+    (tie.spec
+    is-too-long-requires
+    returns
+    sub-whole
+    fresh-requires
+    returns-2
+    slice-aggregate-walk-back
+    walk-back-requires
+    returns-3)
