@@ -1,9 +1,11 @@
 // Runs the cases of document 01 by the real code, and says what each gave.
 mod say;
+mod tails;
 
 use refusal::Refusal;
 
 fn main() {
     say::refusal(Refusal::BadMark { page: 12 });
     say::text(b"\n");
+    tails::run();
 }
