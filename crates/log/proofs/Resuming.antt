@@ -24,6 +24,18 @@ use Rattle.log.proofs.Cases.{side, order}
 use Rattle.log.proofs.Bounding.{Fits, fits, not-too-long, length-log}
 use Rattle.log.proofs.Recovering.{last-used, last-goes-on, back-start, back-bad, back-later, length-cut, recover-bad, recover-fresh, recover-tail}
 
+-- ---- the last start
+
+pub last-unique : (log : List ℕ) (p q : ℕ) → Last log p → Last log q → p ≡ q
+last-unique log p q l m = omega (arith, l .none q (m .start), m .none p (l .start))
+
+-- on a sound log it has the greatest id
+pub last-greatest : (log : List ℕ) → Sound log → (p q : ℕ) → Last log p → Start log q → idAt log q ≤ idAt log p
+last-greatest log s p q l b = ⊎-elim
+    (λ e. omega (arith, ap (idAt log) e))
+    (⊎-elim (λ a. omega (arith, s .rising q p b (l .start) a)) (λ a. absurd (omega (arith, l .none q b))))
+    (order q p)
+
 -- ---- the walk back on a sound log ends at the last start
 
 pub record Ended (log : List ℕ) (excess from : ℕ) : Type 0 where
