@@ -2,8 +2,10 @@
 mod ids;
 mod pages;
 mod say;
+mod tails;
 
 fn main() {
     pages::run();
+    tails::run();
     ids::run();
 }
