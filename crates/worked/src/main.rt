@@ -3,9 +3,11 @@ mod ids;
 mod lookups;
 mod pages;
 mod say;
+mod tails;
 
 fn main() {
     pages::run();
+    tails::run();
     ids::run();
     lookups::run();
 }
