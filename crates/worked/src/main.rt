@@ -8,6 +8,6 @@ mod tails;
 fn main() {
     pages::run();
     tails::run();
-    ids::run();
     lookups::run();
+    ids::run();
 }
