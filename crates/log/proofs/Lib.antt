@@ -32,3 +32,4 @@ pub mod Refusing
 pub mod Lasting
 pub mod Moving
 pub mod Demands
+pub mod Worked
