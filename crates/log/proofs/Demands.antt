@@ -96,7 +96,7 @@ module _ (w v : World) (i : Lives w) (m : Moved w v) (id : ℕ) (h : Settled w i
   same-data : handedData (logOf v) (firstAnswer w id) ≡ handedData (logOf w) (firstAnswer w id)
   same-data = rw (m .grows .is) (data-grows (logOf w) (m .grows .more) (i .ready .sound) id (firstAnswer w id) right-before)
 
-  kept-answer : Keeps v id (firstAnswer w id) (handedData (logOf w) (firstAnswer w id))
+  pub kept-answer : Keeps v id (firstAnswer w id) (handedData (logOf w) (firstAnswer w id))
   kept-answer = record {
     settled = stays-settled m id h;
     answers = rw same-data at (right-answers v id (firstAnswer w id) same-answer right-after);
@@ -104,7 +104,7 @@ module _ (w v : World) (i : Lives w) (m : Moved w v) (id : ℕ) (h : Settled w i
   }
 
 -- DEMAND 3: through any sequence of calls, refused ones included, from a sound log and its recovered state, a settled id keeps its first answer: found exactly if it is stored
-pub settled : (w : World) → Begun w → (earlier : List Call) (id : ℕ) → Settled (run w earlier) id → KeepsFirst (run w earlier) id
+unfoldable pub settled : (w : World) → Begun w → (earlier : List Call) (id : ℕ) → Settled (run w earlier) id → KeepsFirst (run w earlier) id
 settled w b earlier id h =
     let v = run w earlier in
     let i = moved-run w earlier (begun-lives w b) .lives in

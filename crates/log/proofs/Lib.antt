@@ -20,7 +20,6 @@ pub mod Handing
 pub mod RightRounds
 pub mod LookupRight
 pub mod UniqueLook
-pub mod Worked
 pub mod Recovering
 pub mod Resuming
 pub mod Unique
@@ -33,3 +32,4 @@ pub mod Refusing
 pub mod Lasting
 pub mod Moving
 pub mod Demands
+pub mod Worked
