@@ -105,9 +105,35 @@ fn random_logs() {
         tally.compared("logs");
     }
     tally.print("random logs");
-    for rule in [Rule::LaterPages, Rule::IdlePages, Rule::FarApart, Rule::AbsentPosition] {
+    for rule in [Rule::LaterPages, Rule::IdlePages, Rule::AbsentPosition] {
         assert!(tally.times(rule) > 0, "{rule:?} did not come up");
     }
+}
+
+/// Ids as far apart as powers of two are: with overflow checks the Rust panics, without them its product wraps to a
+/// page that it has been at, and the id is lost.
+#[test]
+fn ids_far_apart() {
+    let mut tally = Tally::default();
+    for power in 20..60 {
+        let step = 1u64 << power;
+        for count in 1..=8 {
+            let mut pair = Pair::with_capacity(8);
+            for i in 0..count {
+                pair.push(&[Entry { id: 1 + i * step, data: vec![i as u8; 3] }], &mut tally);
+            }
+            pair.set_next(1 + count * step);
+            for i in 0..count {
+                for id in [i * step, 1 + i * step, 2 + i * step, 1 + i * step + step / 2] {
+                    pair.compare_lookup(id, &mut tally);
+                    pair.compare_scan((Bound::Included(id), Bound::Unbounded), &mut tally);
+                    pair.compare_scan((Bound::Excluded(id), Bound::Included(id + step)), &mut tally);
+                }
+            }
+        }
+    }
+    tally.print("ids far apart");
+    assert!(tally.times(Rule::FarApart) > 0);
 }
 
 /// Where ids are dense, entries have one page each and next is one past the last, the Rust loses nothing.
@@ -145,7 +171,8 @@ fn random_batches() {
                         2 => 0,
                         _ => id + 1 + chance.below(3),
                     };
-                    Entry { id, data: { let n = payload(&mut chance) - 8; chance.bytes(n) } }
+                    let payload = payload(&mut chance);
+                    Entry { id, data: chance.bytes(payload - 8) }
                 })
                 .collect();
             pair.push(&batch, &mut tally);
