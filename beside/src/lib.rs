@@ -6,6 +6,7 @@
 pub mod chance;
 pub mod ours;
 pub mod pair;
+pub mod replay;
 pub mod rules;
 pub mod rust;
 pub mod tally;

@@ -68,8 +68,8 @@ impl Pair {
         self.walk_back.push(self.held.len() - 1);
     }
 
-    /// Pushes a batch on both sides and compares the refusal, the count, the state and every byte.
-    pub fn push(&mut self, batch: &[Entry], tally: &mut Tally) {
+    /// Pushes a batch on both sides and compares the refusal, the count, the state and every byte; the Rust's answer.
+    pub fn push(&mut self, batch: &[Entry], tally: &mut Tally) -> PushedBy {
         let before = self.ours.store.clone();
         let from = self.ours.state;
         let (by_ours, written) = self.ours.push(batch);
@@ -80,6 +80,7 @@ impl Pair {
         assert!(self.ours.store[end..] == before[end..], "bytes past the log changed");
         self.hold_written(&batch[..written as usize], from.length);
         tally.compared("pushes");
+        by_rust
     }
 
     /// Takes the entries that were written into what is known; their pages must be exactly what the log grew by.

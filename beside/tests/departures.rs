@@ -12,7 +12,9 @@ fn log_of(entries: &[(u64, usize)], next: u64) -> Pair {
     for &(id, payload) in entries {
         match payload {
             0 => pair.add_idle_page(0),
-            _ => pair.push(&[Entry { id, data: vec![0x61; payload - 8] }], &mut tally),
+            _ => {
+                pair.push(&[Entry { id, data: vec![0x61; payload - 8] }], &mut tally);
+            }
         }
     }
     pair.set_next(next);
