@@ -169,7 +169,7 @@ static void damage(uint64_t length)
         return;
     for (uint64_t n = 1 + below(3); n > 0; n--) {
         uint64_t page = below(length / PAGE) * PAGE;
-        switch (below(5)) {
+        switch (below(6)) {
         case 0:
             store.bytes[page] = one_in(2) ? (uint8_t)below(2) : (uint8_t)chance();
             break;
@@ -183,23 +183,50 @@ static void damage(uint64_t length)
             memset(store.bytes + page + 1, 0, 2);
             store.bytes[page + 3] = (uint8_t)below(9);
             break;
+        case 4: /* a page twice, so an id that does not ascend */
+            memmove(store.bytes + page, store.bytes + below(length / PAGE) * PAGE, PAGE);
+            break;
         default:
             store.bytes[below(length)] = (uint8_t)chance();
         }
     }
 }
 
+/* Entries of one page each whose ids are in no order: which page is found depends on every guess on the way. */
+static awirbesh_state disordered_log(void)
+{
+    awirbesh_state state = {store.len / PAGE * PAGE, chance(), 0};
+    uint64_t shift = below(40);
+    for (size_t at = 0; at < state.length; at += PAGE) {
+        uint64_t id = chance() >> shift;
+        memcpy(store.bytes + at, "\1\0\0\10", 4);
+        if (one_in(8))
+            store.bytes[at] = 0;
+        for (int i = 0; i < 8; i++)
+            store.bytes[at + 4 + (size_t)i] = (uint8_t)(id >> (56 - 8 * i));
+    }
+    state.next = one_in(4) ? UINT64_MAX >> shift : chance() >> shift;
+    if (state.length && one_in(2)) /* a multiple of the pages: see some_id */
+        state.next -= state.next % (state.length / PAGE);
+    return state;
+}
+
 /* Fills the store and says what state the caller claims it has. */
 static awirbesh_state some_log(void)
 {
-    lend(&store, below(10) ? below(24) * PAGE + (one_in(3) ? below(PAGE) : 0) : below(3), one_in(2));
+    size_t pages = one_in(8) ? 60 : 24;
+    lend(&store, below(10) ? below(pages) * PAGE + (one_in(3) ? below(PAGE) : 0) : below(3), one_in(2));
     for (size_t i = 0; i < store.len; i++)
         store.bytes[i] = (uint8_t)(i * 7);
     awirbesh_state state = sound_log();
-    switch (below(6)) {
+    switch (below(8)) {
     case 0:
         break;
-    case 1: /* bytes of no log, with marks that are often marks */
+    case 1:
+    case 2:
+        state = disordered_log();
+        break;
+    case 3: /* bytes of no log, with marks that are often marks */
         for (size_t i = 0; i < store.len; i += PAGE) {
             for (size_t j = i; j < store.len && j < i + 12; j++)
                 store.bytes[j] = (uint8_t)chance();
@@ -245,6 +272,8 @@ static uint64_t some_id(awirbesh_state state)
             id = id * 256 + store.bytes[at + 4 + (uint64_t)i];
         return id;
     }
+    if (page && page < 64 && one_in(3)) /* where the guess goes from one page to the next, and the shift's rounding shows */
+        return state.next / page * below(page) + below(2);
     return one_in(5) ? any_number() : below(state.next ? state.next : 1);
 }
 
