@@ -39,8 +39,14 @@ pub struct Held {
 /// What a lookup answers, on either side. The length is the data's, so the Rust's less 8.
 #[derive(Clone, Debug, PartialEq, Eq)]
 pub enum Looked {
-    Found { position: u64, length: u64, data: Vec<u8> },
-    Absent { position: u64 },
+    Found {
+        position: u64,
+        length: u64,
+        data: Vec<u8>,
+    },
+    Absent {
+        position: u64,
+    },
     /// A refusal here, an error there.
     Refused(String),
     Panicked(String),
@@ -65,7 +71,10 @@ pub enum PushedBy {
 #[derive(Clone, Debug, PartialEq, Eq)]
 pub enum RecoveredBy {
     /// The state, and the bytes that the file has after it.
-    At { state: State, file: u64 },
+    At {
+        state: State,
+        file: u64,
+    },
     Refused(String),
     Panicked(String),
 }

@@ -112,11 +112,9 @@ impl Pair {
         match self.held.iter().find(|held| held.id >= id) {
             None => Looked::Absent { position: self.state().length },
             Some(held) if held.id > id => Looked::Absent { position: held.page * PAGE },
-            Some(held) => Looked::Found {
-                position: held.page * PAGE,
-                length: held.data.len() as u64,
-                data: held.data.clone(),
-            },
+            Some(held) => {
+                Looked::Found { position: held.page * PAGE, length: held.data.len() as u64, data: held.data.clone() }
+            }
         }
     }
 

@@ -128,3 +128,54 @@ pub fn of_scan(pair: &Pair, lower: Option<u64>, rust_panic: Option<&str>) -> Opt
     let overflowed = lower.is_some_and(|id| id > 0 && id < pair.state().next && follow(pair, id).overflowed);
     (cfg!(debug_assertions) && overflowed && rust_panic?.contains("with overflow")).then_some(Rule::FarApart)
 }
+
+/// A rule names its cause and nothing else: answers that no cause explains stay without a name.
+#[cfg(test)]
+mod tests {
+    use super::*;
+    use crate::{Entry, Tally};
+
+    fn dense_log() -> Pair {
+        let mut pair = Pair::with_capacity(8);
+        let batch: Vec<Entry> = (1..=4).map(|id| Entry { id, data: Vec::new() }).collect();
+        pair.push(&batch, &mut Tally::default());
+        pair.set_next(5);
+        pair
+    }
+
+    #[test]
+    fn a_lost_id_without_a_cause_has_no_rule() {
+        let pair = dense_log();
+        for id in 1..=4 {
+            for position in [0, 1_024, 4_096] {
+                assert_eq!(of_lookup(&pair, id, &Looked::Absent { position }, &pair.truth(id)), None);
+            }
+        }
+    }
+
+    #[test]
+    fn a_wrong_find_has_no_rule() {
+        let pair = dense_log();
+        let wrong = Looked::Found { position: 0, length: 0, data: Vec::new() };
+        assert_eq!(of_lookup(&pair, 2, &wrong, &pair.truth(2)), None);
+        assert_eq!(of_lookup(&pair, 5, &wrong, &pair.truth(5)), None);
+    }
+
+    #[test]
+    fn an_absent_id_at_a_later_place_has_no_rule() {
+        let mut pair = dense_log();
+        pair.set_next(7);
+        assert_eq!(pair.truth(5), Looked::Absent { position: 4_096 });
+        assert_eq!(of_lookup(&pair, 5, &Looked::Absent { position: 5_120 }, &pair.truth(5)), None);
+        assert_eq!(of_lookup(&pair, 5, &Looked::Absent { position: 512 }, &pair.truth(5)), None);
+    }
+
+    #[test]
+    fn a_panic_without_an_overflow_has_no_rule() {
+        let pair = dense_log();
+        let panic = Looked::Panicked("attempt to multiply with overflow".into());
+        assert_eq!(of_lookup(&pair, 2, &panic, &pair.truth(2)), None);
+        assert_eq!(of_scan(&pair, Some(2), Some("attempt to multiply with overflow")), None);
+        assert_eq!(of_scan(&pair, None, None), None);
+    }
+}

@@ -81,7 +81,7 @@ fn ids_far_apart_overflow_the_page_product() {
 fn the_smallest_wrap_is_the_smallest() {
     let wraps = |id: u64, next: u64| {
         let pages = ((id - 1) as f64 * ((next - 1) as f64 / 2.0)).floor() as u64;
-        pages > 0 && pages % (1 << 54) == 0
+        pages > 0 && pages.is_multiple_of(1 << 54)
     };
     let first = (3u64..).find_map(|next| {
         let near = (1u64 << 55) / (next - 1) + 1;

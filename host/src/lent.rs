@@ -48,8 +48,7 @@ pub enum Look {
 
 /// Looks an id up and copies its data to the front of `out`.
 pub fn lookup(store: &[u8], state: State, id: u64, out: &mut [u8]) -> Result<Look, Refusal> {
-    let look =
-        unsafe { ffi::awirbesh_lookup(store.as_ptr(), store.len(), state, id, out.as_mut_ptr(), out.len()) };
+    let look = unsafe { ffi::awirbesh_lookup(store.as_ptr(), store.len(), state, id, out.as_mut_ptr(), out.len()) };
     Refusal::test(look.number, look.value).map(|()| match look.found {
         0 => Look::Absent { position: look.position },
         _ => Look::Found { position: look.position, length: look.length },
@@ -88,9 +87,8 @@ pub enum Step {
 
 /// The next entry of the range from the cursor on.
 pub fn step(store: &[u8], state: State, range: ffi::Range, cursor: u64, out: &mut [u8]) -> Result<Step, Refusal> {
-    let s = unsafe {
-        ffi::awirbesh_step(store.as_ptr(), store.len(), state, range, cursor, out.as_mut_ptr(), out.len())
-    };
+    let s =
+        unsafe { ffi::awirbesh_step(store.as_ptr(), store.len(), state, range, cursor, out.as_mut_ptr(), out.len()) };
     Refusal::test(s.number, s.value).map(|()| match s.kind {
         ffi::ENTRY => Step::Entry { id: s.id, length: s.length, cursor: s.cursor },
         _ => Step::End { cursor: s.cursor },

@@ -6,8 +6,9 @@
 mod bytes;
 pub mod error;
 pub mod io;
-#[path = "../original/vault.rs"]
-pub mod vault;
+pub mod vault {
+    include!("../original/vault.rs");
+}
 
 pub use bytes::ArcBytes;
 pub use error::{Error, ErrorKind};

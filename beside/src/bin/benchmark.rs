@@ -105,14 +105,9 @@ fn lookups(what: &str, log: &mut Log, ids: &[u64]) {
     let mut ids = shuffled(ids);
     ids.truncate(that_fit_a_turn(log, &ids));
     for &id in &ids {
-        by_rust += usize::from(matches!(
-            probe::fetch(&mut log.rust.file, &log.rust.state, id),
-            Ok(ScanResult::Found { .. })
-        ));
-        by_ours += usize::from(matches!(
-            lent::lookup(&log.store, log.state, id, &mut out),
-            Ok(Look::Found { .. })
-        ));
+        by_rust +=
+            usize::from(matches!(probe::fetch(&mut log.rust.file, &log.rust.state, id), Ok(ScanResult::Found { .. })));
+        by_ours += usize::from(matches!(lent::lookup(&log.store, log.state, id, &mut out), Ok(Look::Found { .. })));
     }
     let Log { store, state, rust, .. } = log;
     let timed = times(
