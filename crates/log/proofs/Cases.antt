@@ -1,0 +1,18 @@
+-- How two numbers lie, as cases. Assumes nothing.
+use Prim.Native.Nat.{ℕ, _≤_, _<_}
+use mathlib.Core.Path.{_≡_, refl}
+use mathlib.Core.Bool.{Bool, true, false}
+use mathlib.Core.Logic.{_⊎_, inl, inr, ⊎-elim}
+use native.Mathlib.Omega.{arith}
+use borrow.Author.Tests.{ltb-true, ltb-false}
+use lib.Dec.{ltb}
+
+pub side : (m n : ℕ) → (m < n) ⊎ (n ≤ m)
+side m n = go (ltb m n) refl
+  where
+    go : (t : Bool) → ltb m n ≡ t → (m < n) ⊎ (n ≤ m)
+    go true e = inl (ltb-true m n e)
+    go false e = inr (ltb-false m n e)
+
+pub order : (m n : ℕ) → (m ≡ n) ⊎ ((m < n) ⊎ (n < m))
+order m n = ⊎-elim (λ l. inr (inl l)) (λ l. ⊎-elim (λ r. inr (inr r)) (λ r. inl (omega arith)) (side n m)) (side m n)

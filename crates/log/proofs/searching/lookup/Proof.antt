@@ -1,0 +1,82 @@
+-- `lookup` meets its contract: each return is one law of `Handing`. Assumes nothing.
+use Prim.Native.Nat.{ℕ, _≤_}
+use mathlib.Core.Path.{_≡_, refl, sym, ap, _∙_}
+use mathlib.Core.Logic.{_⊎_, inl, inr}
+use mathlib.Core.List.{List, _++_}
+use native.Mathlib.Omega.{arith}
+use borrow.Author.Needs.{needs}
+use denote.Enum.Declared.{tagOf}
+use lib.ListN.{length, take}
+use Rattle.refusal.specs.Refusal.{numberOf, valueOf}
+use Rattle.log.specs.Lookup.{found, looked, findOf, lookupOf, paperLook}
+use Rattle.log.specs.declared.state.State.{State}
+use Rattle.log.specs.declared.searching.Look.{Look}
+use Rattle.log.specs.declared.searching.Look.the-variants.{Found, Absent, Refused}
+use Rattle.log.proofs.searching.Look as look
+use Rattle.log.proofs.Bounding.{good, length-log}
+use Rattle.log.proofs.Placing.{found-good}
+use Rattle.log.proofs.Handing.{data-within, too-small, handed-over, nothing-absent, nothing-refused}
+use Rattle.log.proofs.searching.lookup.Statement.{statement}
+use Rattle.log.proofs.searching.lookup.Tie as tie
+
+-- ---- where the id was found
+
+abbrev start-of : tie.After-look → tie.Start
+start-of c = c .before .before .before .before .before
+
+is-found : (c : tie.After-look) → findOf (start-of c .args .store .now) (start-of c .args .state) (start-of c .args .id) ≡ found (c .look .given .0 .0) (c .look .given .0 .1 .0)
+is-found c = sym (c .before .before .find .ensures) ∙ ap paperLook (c .look .given .1)
+
+log-length : (c : tie.After-look) → length (take (start-of c .args .state .length) (start-of c .args .store .now)) ≡ start-of c .args .state .length
+log-length c = length-log _ _ (good _ _ (found-good _ _ _ _ _ (is-found c)) .inside)
+
+-- ---- and where not
+
+nothing : (store : List ℕ) (st : State) (id : ℕ) (out : List ℕ) (r : Look) → (tagOf look.the-type r ≡ 1) ⊎ (tagOf look.the-type r ≡ 2)
+    → paperLook r ≡ findOf store st id → looked (paperLook r) out ≡ lookupOf store st id out
+nothing store st id out (Found position len) (inl t) f = absurd (omega arith)
+nothing store st id out (Found position len) (inr t) f = absurd (omega arith)
+nothing store st id out (Absent position) t f = sym (nothing-absent store st id out position (sym f))
+nothing store st id out (Refused r) t f = sym (nothing-refused store st id out (numberOf r) (valueOf r) (sym f))
+
+-- ---- the needs
+
+find-requires : tie.Need-find-requires
+find-requires c κs = search needs
+
+enum-known-look : tie.Need-enum-known-look
+enum-known-look c = search needs
+
+returns : tie.Need-returns
+returns c = sym (too-small _ _ _ _ _ _ (is-found (c .before .before)) (omega arith))
+
+slice-aggregate-copy-data : tie.Need-slice-aggregate-copy-data
+slice-aggregate-copy-data c = sym (log-length (c .before .before .before))
+
+copy-data-requires : tie.Need-copy-data-requires
+copy-data-requires c κs = (omega arith, data-within _ _ _ (start-of (c .before .before .before .before) .args .out .now) _ _ (is-found (c .before .before .before .before)))
+
+same-length : tie.Need-same-length
+same-length c = search needs
+
+returns-2 : tie.Need-returns-2
+returns-2 c =
+    let at-found = c .before .before .before .before .before .before .before in
+    ap (looked (found (at-found .look .given .0 .0) (at-found .look .given .0 .1 .0))) (c .before .before .copy-data .ensures)
+    ∙ sym (handed-over _ _ _ _ _ _ (is-found at-found) (omega arith))
+
+returns-3 : tie.Need-returns-3
+returns-3 c = nothing _ _ _ _ (c .before .find .result) (c .match .keys2) (c .before .find .ensures)
+
+pub lookup-spec : {M : Type 1} → statement M
+lookup-spec =
+    tie.close
+    (tie.spec
+    find-requires
+    enum-known-look
+    returns
+    slice-aggregate-copy-data
+    copy-data-requires
+    same-length
+    returns-2
+    returns-3)

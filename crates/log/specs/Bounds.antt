@@ -1,0 +1,19 @@
+-- 01, "Refusal numbers", 1: which stores, lengths and cursors are good.
+use Prim.Native.Nat.{ℕ, _%_, _^_}
+use mathlib.Core.Bool.{Bool, not, _||_}
+use mathlib.Core.List.{List}
+use lib.Dec.{ltb, eqb}
+use lib.ListN.{length}
+use Rattle.page.specs.Size.{pageSize}
+
+-- "store longer than 2^31, or length .. above the store's size": all that recovery and the sound check refuse
+unfoldable pub tooLong : List ℕ → ℕ → Bool
+tooLong store n = ltb (2 ^ 31) (length store) || ltb (length store) n
+
+-- "or length not a multiple of 1,024"
+unfoldable pub badState : List ℕ → ℕ → Bool
+badState store n = tooLong store n || not (eqb (n % pageSize) 0)
+
+-- "or a scan cursor not at a page boundary or above length"
+unfoldable pub badCursor : ℕ → ℕ → Bool
+badCursor n cursor = ltb n cursor || not (eqb (cursor % pageSize) 0)

@@ -1,0 +1,14 @@
+pub mod Bounds
+pub mod State
+pub mod Sound
+pub mod Guess
+pub mod Lookup
+pub mod Push
+pub mod Turns
+pub mod Recover
+pub mod Check
+pub mod Range
+pub mod Step
+pub mod Scan
+pub mod Items
+pub mod World

@@ -1,0 +1,42 @@
+-- 01, "What is carried over" and "Take": the state, and taking an id.
+use Prim.Native.Nat.{ℕ, _+_, _-_, _^_}
+use lib.Dec.{eqb}
+use Rattle.refusal.specs.Pick.{pick}
+use Rattle.refusal.specs.Refusal.{numberOf, valueOf}
+use Rattle.log.specs.declared.state.State.{State}
+use Rattle.log.specs.declared.state.Taken.{Taken}
+use Rattle.log.specs.declared.state.Taken.the-variants.{Id, Refused}
+
+-- "The state has three 64-bit numbers: length, last written id, next id"
+abbrev pub stateOf : ℕ → ℕ → ℕ → State
+stateOf n last next = record { length = n; last = last; next = next }
+
+-- "A fresh state is 0, 0, 1"
+abbrev pub fresh : State
+fresh = stateOf 0 0 1
+
+-- "The state is (length after the cut, its id, its id + 1)"
+abbrev pub recoveredAt : ℕ → ℕ → State
+recoveredAt n id = stateOf n id (id + 1)
+
+-- "Push never moves the next id"
+abbrev pub movedTo : State → ℕ → ℕ → State
+movedTo st n last = stateOf n last (st .next)
+
+-- the id that is never handed out, and that recovery refuses
+abbrev pub topId : ℕ
+topId = 2 ^ 64 - 1
+
+-- what taking an id answers: the id and the state after it, or a refusal
+pub data Taking : Type 0 where
+  taken : (id : ℕ) (state : State) → Taking
+  refused : (number value : ℕ) → Taking
+
+-- "Tests 9 alone, hands out next and adds 1"
+unfoldable pub takeOf : State → Taking
+takeOf st = pick (eqb (st .next) topId) (refused 9 0) (taken (st .next) (stateOf (st .length) (st .last) (st .next + 1)))
+
+-- the paper's answer for each case of the code's
+abbrev pub paperTaken : Taken → Taking
+paperTaken (Id id state) = taken id state
+paperTaken (Refused r) = refused (numberOf r) (valueOf r)

@@ -1,0 +1,16 @@
+pub mod Listing
+pub mod Counting
+pub mod Digits
+pub mod Parting
+pub mod Placing
+pub mod Paging
+pub mod Starting
+pub mod Heading
+pub mod Turning
+pub mod Joining
+pub mod Reading
+pub mod Written
+pub mod Growing
+pub mod Marking
+pub mod Worked
+pub mod Unique

@@ -1,0 +1,58 @@
+-- `Entry::read` meets its contract. Assumes nothing.
+use mathlib.Core.Path.{_≡_, ap}
+use Prim.Native.Nat.{ℕ, _+_}
+use native.Mathlib.Omega.{arith}
+use borrow.Author.Needs.{needs}
+use Rattle.page.proofs.Counting.{pages-linear}
+use Rattle.page.proofs.Starting.{short, cut, reaches}
+use Rattle.page.proofs.entry.Entry.read.Statement.{statement}
+use Rattle.page.proofs.entry.Entry.read.Tie as tie
+
+mul-at : tie.Need-mul-at
+mul-at c = search needs
+
+sub-read : tie.Need-sub-read
+sub-read c = search needs
+
+part-read-start : tie.Need-part-read-start
+part-read-start c = search needs
+
+part-read-end : tie.Need-part-read-end
+part-read-end c = search needs
+
+read-requires : tie.Need-read-requires
+read-requires c κs = search needs
+
+returns : tie.Need-returns
+returns c = short _ _ _ (c .before .read .ensures .0) (c .if1 .taken)
+
+count-requires : tie.Need-count-requires
+count-requires c κs = search needs
+
+add-after : tie.Need-add-after
+add-after c = omega (arith, pages-linear (c .before .before .read .result .length))
+
+returns-2 : tie.Need-returns-2
+returns-2 c =
+    let at-read = c .before .before .before in
+    cut _ _ _ (at-read .read .ensures .0) (c .before .before .if1 .left) _ (ap (λ (k : ℕ). at-read .before .before .before .args .s + k) (c .before .count .ensures)) (c .if2 .taken)
+
+returns-3 : tie.Need-returns-3
+returns-3 c =
+    let at-read = c .before .before .before in
+    reaches _ _ _ (at-read .read .ensures .0) (c .before .before .if1 .left) _ (ap (λ (k : ℕ). at-read .before .before .before .args .s + k) (c .before .count .ensures)) (c .if2 .left) _ (at-read .read .ensures .1)
+
+pub read-spec : {M : Type 1} → statement M
+read-spec =
+    tie.close
+    (tie.spec
+    mul-at
+    sub-read
+    part-read-start
+    part-read-end
+    read-requires
+    returns
+    count-requires
+    add-after
+    returns-2
+    returns-3)

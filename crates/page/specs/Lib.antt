@@ -1,0 +1,7 @@
+pub mod Tab
+pub mod Size
+pub mod Bytes
+pub mod Mark
+pub mod Entry
+pub mod Data
+pub mod Write

@@ -1,0 +1,20 @@
+-- 01, "The page": the mark of a page.
+use Prim.Native.Nat.{ℕ}
+use mathlib.Core.List.{List}
+use lib.Dec.{eqb}
+use lib.ListN.{getD}
+use Rattle.refusal.specs.Pick.{pick}
+use Rattle.page.specs.Size.{pageAt}
+use Rattle.page.specs.declared.marks.Mark.{Mark}
+use Rattle.page.specs.declared.marks.Mark.the-variants.{Start, Later, Bad}
+
+-- "Byte 0 is the mark"
+unfoldable pub markAt : List ℕ → ℕ → ℕ
+markAt log p = getD (pageAt log p) 0 0
+
+-- "1 starts an entry, 0 does not"; every other mark is bad
+abbrev pub byMark : {A : Type 0} → ℕ → A → A → A → A
+byMark mark start later bad = pick (eqb mark 1) start (pick (eqb mark 0) later bad)
+
+abbrev pub markOf : ℕ → Mark
+markOf mark = byMark mark Start Later Bad
