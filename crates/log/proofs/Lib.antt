@@ -9,7 +9,7 @@ pub mod Windows
 pub mod Finding
 pub mod Beginning
 pub mod Listed
-pub mod Placing
+pub mod Positions
 pub mod Handing
 pub mod RightRounds
 pub mod LookupRight
@@ -18,3 +18,4 @@ pub mod Handed
 pub mod ScanRight
 pub mod UniqueScan
 pub mod Refusing
+pub mod Worked

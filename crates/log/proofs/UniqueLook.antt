@@ -1,11 +1,10 @@
 -- The paper's answer tells a `Look` from every other, so that no two results meet the promise of `find` or of `lookup`. Assumes nothing.
 use Prim.Native.Nat.{ℕ}
-use mathlib.Core.Path.{_≡_, refl, sym, ap, _∙_}
+use mathlib.Core.Path.{_≡_, sym, ap, _∙_}
 use mathlib.Core.List.{List}
 use native.Mathlib.Omega.{arith}
-use Rattle.refusal.specs.Refusal.{numberOf, valueOf}
 use Rattle.refusal.proofs.Unique.{refusal-unique}
-use Rattle.log.specs.Lookup.{Looking, Looked, looked, findOf, lookupOf, paperLook}
+use Rattle.log.specs.Lookup.{Looked, looked, findOf, lookupOf, paperLook}
 use Rattle.log.specs.declared.state.State.{State}
 use Rattle.log.specs.declared.searching.Look.{Look}
 use Rattle.log.specs.declared.searching.Look.the-variants.{Found, Absent, Refused}

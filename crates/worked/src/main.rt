@@ -1,5 +1,6 @@
 // Runs the cases of document 01 by the real code, and says what each gave.
 mod building;
+mod lookups;
 mod say;
 mod scans;
 
@@ -8,5 +9,6 @@ use refusal::Refusal;
 fn main() {
     say::refusal(Refusal::BadMark { page: 12 });
     say::text(b"\n");
+    lookups::run();
     scans::run();
 }

@@ -1,6 +1,6 @@
 -- On any store and state: what is found is a whole entry of the log, and an absent id's position is a page's or the log's end. Assumes nothing.
-use Prim.Native.Nat.{ℕ, zero, suc, _+_, _*_, _%_, _≤_, _<_}
-use mathlib.Core.Path.{_≡_, refl, sym, _∙_, subst}
+use Prim.Native.Nat.{ℕ, _%_, _≤_, _<_}
+use mathlib.Core.Path.{_≡_, refl}
 use mathlib.Core.Bool.{Bool, true, false}
 use mathlib.Core.Logic.{⊎-elim}
 use mathlib.Core.List.{List}
@@ -8,12 +8,12 @@ use native.Mathlib.Omega.{arith}
 use lib.ListN.{length, take}
 use Rattle.page.specs.Size.{pageSize, pageCount}
 use Rattle.log.specs.Bounds.{badState}
-use Rattle.log.specs.Lookup.{Looking, found, allPages, searchOf, findOf}
+use Rattle.log.specs.Lookup.{found, allPages, searchOf, findOf}
 use Rattle.log.specs.declared.state.State.{State}
 use Rattle.log.proofs.Bounding.{good, length-log}
 use Rattle.log.proofs.Cases.{side}
 use Rattle.log.proofs.Finding.{search-zero, search-late, search-all, find-bad, find-in}
-use Rattle.log.proofs.Rounds.{Held, Edge, Placed, search-placed}
+use Rattle.log.proofs.Rounds.{Held, Placed, search-placed}
 
 search-of-placed : (log : List ℕ) (next id : ℕ) → length log % pageSize ≡ 0 → Placed log id (searchOf log next id)
 search-of-placed log next id whole = ⊎-elim some none (side 0 id)
