@@ -11,7 +11,7 @@ use lib.Seq.{length-take-le}
 use Rattle.page.specs.Size.{pageSize, pageCount}
 use Rattle.log.specs.Bounds.{tooLong, badState, badCursor}
 
-neither : (s t : Bool) → (s || t) ≡ false → (s ≡ false) × (t ≡ false)
+pub neither : (s t : Bool) → (s || t) ≡ false → (s ≡ false) × (t ≡ false)
 neither true t e = absurd (let z : _≡_ {A = ℕ} 0 1 = cc in omega arith)
 neither false t e = (refl, e)
 

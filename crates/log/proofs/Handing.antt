@@ -25,9 +25,13 @@ module _ (store : List ℕ) (st : State) (id : ℕ) (out : List ℕ) where
     unfolding lookupOf handed
     too-small l = rw (f, lt-ltb (length out) len l)
 
-    pub handed-over : (s : ℕ) → s ≡ position / pageSize → len ≤ length out → lookupOf store st id out ≡ looked (found position len) (dataAt (take (st .length) store) s len ++ drop len out)
+    pub handed-over : len ≤ length out → lookupOf store st id out ≡ looked (found position len) (dataAt (take (st .length) store) (position / pageSize) len ++ drop len out)
     unfolding lookupOf handed
-    handed-over s p l = rw (f, le-ltb (length out) len l, p)
+    handed-over l = rw (f, le-ltb (length out) len l)
+
+    -- the same, where the entry's page is known
+    pub handed-from : (s : ℕ) → s ≡ position / pageSize → len ≤ length out → lookupOf store st id out ≡ looked (found position len) (dataAt (take (st .length) store) s len ++ drop len out)
+    handed-from s p l = rw p (handed-over l)
 
   pub nothing-absent : (position : ℕ) → findOf store st id ≡ absent position → lookupOf store st id out ≡ looked (absent position) out
   unfolding lookupOf handed

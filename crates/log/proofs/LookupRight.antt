@@ -14,7 +14,7 @@ use Rattle.log.specs.Lookup.{Looking, found, absent, refused, allPages, 
 use Rattle.log.specs.declared.state.State.{State}
 use Rattle.log.proofs.Cases.{side, order}
 use Rattle.log.proofs.Finding.{find-in, search-all}
-use Rattle.log.proofs.Handing.{handed-over, nothing-absent}
+use Rattle.log.proofs.Handing.{handed-from, nothing-absent}
 use Rattle.log.proofs.RightRounds.{searched}
 
 -- ---- on a sound log there is one right answer
@@ -86,6 +86,6 @@ module _ (store : List ℕ) (st : State) (id : ℕ)
     where
       go : (r : Looking) → findOf store st id ≡ r → Right log id r → RightLook log id out (lookupOf store st id out .answer) (lookupOf store st id out .out)
       go (found position len) e f =
-          rw (handed-over store st id out position len e (f .page) (omega (arith, f .at-page)) (room position len f)) (f, refl)
+          rw (handed-from store st id out position len e (f .page) (omega (arith, f .at-page)) (room position len f)) (f, refl)
       go (absent position) e f = rw (nothing-absent store st id out position e) (f, refl)
       go (refused number value) e f = absurd f

@@ -3,8 +3,12 @@ pub mod State
 pub mod Sound
 pub mod Guess
 pub mod Lookup
+pub mod Push
+pub mod Turns
+pub mod Recover
+pub mod Check
 pub mod Range
 pub mod Step
-pub mod Turns
 pub mod Scan
 pub mod Items
+pub mod World

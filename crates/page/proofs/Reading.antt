@@ -5,10 +5,10 @@ use Prim.Native.Nat.{ℕ, _+_, _*_, _/_, _%_, _<_}
 use native.Mathlib.Omega.{arith}
 use lib.ListN.{getD, drop}
 use lib.Seq.{getD-drop}
-use Rattle.page.specs.Size.{pageSize, pagesFor, pageAt}
+use Rattle.page.specs.Size.{pageSize, pagesFor, pageCount, pageAt}
 use Rattle.page.specs.Bytes.{numberAt}
 use Rattle.page.specs.Mark.{markAt}
-use Rattle.page.specs.Entry.{lengthAt, idAt}
+use Rattle.page.specs.Entry.{lengthAt, idAt, entryAt}
 use Rattle.page.specs.Data.{placeOf, dataOf, dataAt}
 use Rattle.page.proofs.Listing.{tab-same}
 use Rattle.page.proofs.Paging.{page-byte}
@@ -26,6 +26,11 @@ module _ (log other : List ℕ) (p q : ℕ) (same : pageAt log p ≡ pageAt othe
   pub id-same : idAt log p ≡ idAt other q
   unfolding idAt
   id-same = rw same
+
+-- what starts at a page depends on that page and on how many pages there are
+pub entry-same : (log other : List ℕ) (p : ℕ) → pageAt log p ≡ pageAt other p → pageCount log ≡ pageCount other → entryAt log p ≡ entryAt other p
+unfolding entryAt
+entry-same log other p same count = rw (length-same log other p p same, id-same log other p p same, count)
 
 -- a byte of the part from page s on lies on a page
 on-page : (log : List ℕ) (s k : ℕ) → getD (drop (s * pageSize) log) k 0 ≡ getD (pageAt log (s + k / pageSize)) (k % pageSize) 0

@@ -1,14 +1,16 @@
 // Runs the cases of document 01 by the real code, and says what each gave.
 mod building;
+mod ids;
 mod lookups;
+mod pages;
 mod say;
 mod scans;
-
-use refusal::Refusal;
+mod tails;
 
 fn main() {
-    say::refusal(Refusal::BadMark { page: 12 });
-    say::text(b"\n");
+    pages::run();
+    tails::run();
     lookups::run();
     scans::run();
+    ids::run();
 }

@@ -15,7 +15,7 @@ use Rattle.log.specs.declared.searching.Look.the-variants.{Found, Absent
 use Rattle.log.proofs.searching.Look as look
 use Rattle.log.proofs.Bounding.{good, length-log}
 use Rattle.log.proofs.Positions.{found-good}
-use Rattle.log.proofs.Handing.{data-within, too-small, handed-over, nothing-absent, nothing-refused}
+use Rattle.log.proofs.Handing.{data-within, too-small, handed-from, nothing-absent, nothing-refused}
 use Rattle.log.proofs.searching.lookup.Statement.{statement}
 use Rattle.log.proofs.searching.lookup.Tie as tie
 
@@ -63,7 +63,7 @@ returns-2 : tie.Need-returns-2
 returns-2 c =
     let at-found = c .before .before .before .before .before .before .before in
     ap (looked (found (at-found .look .given .0 .0) (at-found .look .given .0 .1 .0))) (c .before .before .copy-data .ensures)
-    ∙ sym (handed-over _ _ _ _ _ _ (is-found at-found) _ (omega arith) (omega arith))
+    ∙ sym (handed-from _ _ _ _ _ _ (is-found at-found) _ (omega arith) (omega arith))
 
 returns-3 : tie.Need-returns-3
 returns-3 c = nothing _ _ _ _ (c .before .find .result) (c .match .keys2) (c .before .find .ensures)

@@ -1,0 +1,35 @@
+-- The paper's answer tells a `Pushed` from every other, so that no two results, and no two stores, meet the promise of `push`. Assumes nothing.
+use Prim.Native.Nat.{ℕ}
+use mathlib.Core.Path.{_≡_, refl, sym, ap, _∙_}
+use mathlib.Core.List.{List}
+use native.Mathlib.Omega.{arith}
+use Rattle.refusal.specs.Refusal.{numberOf, valueOf}
+use Rattle.refusal.proofs.Unique.{refusal-unique}
+use Rattle.log.specs.Push.{Answer, paperReason, paperPushed, pushOf}
+use Rattle.log.specs.declared.state.State.{State}
+use Rattle.log.specs.declared.pushing.Reason.{Reason}
+use Rattle.log.specs.declared.pushing.Reason.the-variants.{None, Refused}
+use Rattle.log.specs.declared.pushing.Pushed.{Pushed}
+
+reason-unique : (r s : Reason) → paperReason r ≡ paperReason s → r ≡ s
+reason-unique None None e = refl
+reason-unique None (Refused s) e = absurd (let z : _≡_ {A = ℕ} 0 1 = cc in omega arith)
+reason-unique (Refused r) None e = absurd (let z : _≡_ {A = ℕ} 0 1 = cc in omega arith)
+reason-unique (Refused r) (Refused s) e = ap Refused (refusal-unique r s (cc) (cc))
+
+made : (r s : Reason) (m n : ℕ) (a b : State) → r ≡ s → m ≡ n → a ≡ b → _≡_ {A = Pushed} (record { reason = r; written = m; state = a }) (record { reason = s; written = n; state = b })
+made r s m n a b e f g = rw (e, f, g)
+
+pub pushed-unique : (r s : Pushed) → paperPushed r ≡ paperPushed s → r ≡ s
+pushed-unique r s e =
+    made (r .reason) (s .reason) (r .written) (s .written) (r .state) (s .state)
+    (reason-unique (r .reason) (s .reason) (ap (λ (a : Answer). a .reason) e))
+    (ap (λ (a : Answer). a .written) e)
+    (ap (λ (a : Answer). a .state) e)
+
+module _ (store : List ℕ) (st : State) (ids ends bytes : List ℕ) where
+  pub push-unique : (r s : Pushed) (b c : List ℕ)
+      → paperPushed r ≡ pushOf store st ids ends bytes .answer → b ≡ pushOf store st ids ends bytes .store
+      → paperPushed s ≡ pushOf store st ids ends bytes .answer → c ≡ pushOf store st ids ends bytes .store
+      → (r ≡ s) × (b ≡ c)
+  push-unique r s b c p q p′ q′ = (pushed-unique r s (p ∙ sym p′), q ∙ sym q′)
