@@ -13,9 +13,9 @@ pub mod Rounds
 pub mod Meeting
 pub mod Windows
 pub mod Finding
-pub mod Positions
 pub mod Beginning
 pub mod Listed
+pub mod Positions
 pub mod Handing
 pub mod RightRounds
 pub mod LookupRight
@@ -33,3 +33,4 @@ pub mod Lasting
 pub mod Moving
 pub mod Demands
 pub mod Worked
+pub mod NeverTen

@@ -1,13 +1,16 @@
 // Runs the cases of document 01 by the real code, and says what each gave.
+mod building;
 mod ids;
 mod lookups;
 mod pages;
 mod say;
+mod scans;
 mod tails;
 
 fn main() {
     pages::run();
     tails::run();
     lookups::run();
+    scans::run();
     ids::run();
 }

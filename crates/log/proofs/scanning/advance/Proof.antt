@@ -36,7 +36,9 @@ copy-data-requires : tie.Need-copy-data-requires
 copy-data-requires c κs = (omega arith, held (c .before .before .before) .room)
 
 mul-t14 : tie.Need-mul-t14
-mul-t14 c = omega (arith, held (c .before .before .before .before .before .before) .ends)
+mul-t14 c =
+    let lies-there = held (c .before .before .before .before .before .before) in
+    omega (arith, lies-there .room, lies-there .ends)
 
 returns-2 : tie.Need-returns-2
 returns-2 c = sym (advance-fault _ _ _ _ _ _ (sym (ap paperReached (c .before .reached .given .1)) ∙ c .before .before .before .forward .ensures))
