@@ -21,3 +21,4 @@ pub mod Resuming
 pub mod Unique
 pub mod Turns
 pub mod Passing
+pub mod ReadBack

@@ -7,3 +7,4 @@ pub mod Push
 pub mod Turns
 pub mod Recover
 pub mod Check
+pub mod ReadBack
