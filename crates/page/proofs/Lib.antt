@@ -12,3 +12,5 @@ pub mod Reading
 pub mod Written
 pub mod Growing
 pub mod Marking
+pub mod Worked
+pub mod Unique

@@ -16,7 +16,7 @@ fn copy_from(part: &[u8], n: usize, out: &mut [u8])
     let mut i = 0;
     while i < n {
         // a page begins here: its mark is no data
-        if at % Page::SIZE == Page::FIRST - Page::ID {
+        if at % Page::SIZE == Page::FIRST_DATA {
             at += 1;
         }
         out[i] = part[at];
@@ -30,7 +30,7 @@ fn copy_entry(part: &[u8], n: usize, out: &mut [u8])
     requires { ⌜ (n ≤ length (now out)) × (pagesFor (8 + n) * pageSize ≤ length (now part)) ⌝ }
     ensures { λ _. ⌜ now (out .exit) ≡ dataOf (now (part .entry)) n ++ drop n (now (out .entry)) ⌝ }
 {
-    copy_from(&part[12..], n, out);
+    copy_from(&part[Page::DATA..], n, out);
 }
 
 // Copies the n data bytes of the entry that starts at page s to the front of `out`.

@@ -27,6 +27,12 @@ impl Page {
     // Bytes of an id, which begins the payload.
     pub const ID: usize = 8;
 
+    // Where the data begins on an entry's first page: after mark, length and id.
+    pub const DATA: usize = Self::SIZE - Self::FIRST + Self::ID;
+
+    // Data bytes on an entry's first page.
+    pub const FIRST_DATA: usize = Self::FIRST - Self::ID;
+
     // The pages of a payload of n bytes.
     pub fn count(n: usize) -> usize
         ensures { λ r. ⌜ r ≡ pagesFor n ⌝ }

@@ -19,7 +19,7 @@ fn put(dst: &mut [u8], src: &[u8])
 }
 
 // The first 12 bytes of an entry: its mark, the length of its payload and its id, high byte first.
-fn head(length: usize, id: u64) -> [u8; 12]
+fn head(length: usize, id: u64) -> [u8; Page::DATA]
     ensures { λ r. ⌜ r ≡ headOf length id ⌝ }
 {
     let id1 = id / 256;
@@ -59,9 +59,9 @@ fn write_first(part: &mut [u8], image: &mut [u8], id: u64, bytes: &[u8])
     ensures { λ _. ⌜ now (part .exit) ≡ overwritten (now (part .entry)) (now (image .exit)) ⌝ }
 {
     let h = head(Page::ID + bytes.len(), id);
-    let m = least(bytes.len(), Page::FIRST - Page::ID);
+    let m = least(bytes.len(), Page::FIRST_DATA);
     put(image, &h);
-    put(&mut image[12..], &bytes[..m]);
+    put(&mut image[Page::DATA..], &bytes[..m]);
     put(part, image);
 }
 
@@ -100,7 +100,7 @@ pub fn write_entry(part: &mut [u8], image: &mut [u8], id: u64, bytes: &[u8])
     ensures { λ _. ⌜ now (part .exit) ≡ overwritten (now (part .entry)) (entryPages (now (image .entry)) id (now (bytes .entry))) ⌝ }
 {
     write_first(part, image, id, bytes);
-    if Page::FIRST - Page::ID < bytes.len() {
-        write_rest(&mut part[1024..], image, &bytes[1012..]);
+    if Page::FIRST_DATA < bytes.len() {
+        write_rest(&mut part[Page::SIZE..], image, &bytes[Page::FIRST_DATA..]);
     }
 }

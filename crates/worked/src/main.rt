@@ -1,9 +1,9 @@
 // Runs the cases of document 01 by the real code, and says what each gave.
+mod ids;
+mod pages;
 mod say;
 
-use refusal::Refusal;
-
 fn main() {
-    say::refusal(Refusal::BadMark { page: 12 });
-    say::text(b"\n");
+    pages::run();
+    ids::run();
 }

@@ -10,6 +10,16 @@ pub fn number(n: u64) {
     io::print_decimal(STDOUT_FILENO, n);
 }
 
+// Bytes in hexadecimal digits, with a space after each.
+pub fn bytes(values: &[u8]) {
+    let mut i: usize = 0;
+    while i < values.len() {
+        io::print_hex(STDOUT_FILENO, values[i] as u64, 2);
+        text(b" ");
+        i += 1;
+    }
+}
+
 // A refusal as document 01 names it: its number, and the page or length.
 pub fn refusal(r: Refusal) {
     text(b"refusal ");

@@ -33,9 +33,6 @@ loop-holds : tie.Need-loop-holds Inv-loop μ-loop
 unfolding dataFrom
 loop-holds c = search needs
 
-sub-if1 : tie.Need-sub-if1 Inv-loop μ-loop
-sub-if1 c = search needs
-
 add-at : tie.Need-add-at Inv-loop μ-loop
 add-at c = omega arith
 
@@ -86,7 +83,6 @@ copy-from-spec =
     Inv-loop
     μ-loop
     loop-holds
-    sub-if1
     add-at
     shared-slice-read-out
     slice-write-out

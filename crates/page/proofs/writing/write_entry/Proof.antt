@@ -14,9 +14,6 @@ write-first-requires c κs =
     let some = pages-some (8 + length (c .before .before .before .before .before .args .bytes .now)) in
     search needs
 
-sub-if1 : tie.Need-sub-if1
-sub-if1 c = search needs
-
 sub-write-rest : tie.Need-sub-write-rest
 sub-write-rest c = omega (arith, pages-some (8 + length (c .before .before .before .before .before .before .before .before .before .before .before .args .bytes .now)))
 
@@ -70,7 +67,6 @@ write-entry-spec =
     tie.close
     (tie.spec
     write-first-requires
-    sub-if1
     sub-write-rest
     part-write-rest-start
     part-write-rest-end

@@ -13,9 +13,6 @@ add-head c = search needs
 head-requires : tie.Need-head-requires
 head-requires c κs = search needs
 
-sub-least : tie.Need-sub-least
-sub-least c = search needs
-
 least-requires : tie.Need-least-requires
 least-requires c κs = search needs
 
@@ -64,7 +61,6 @@ write-first-spec =
     (tie.spec
     add-head
     head-requires
-    sub-least
     least-requires
     slice-aggregate-put
     put-requires

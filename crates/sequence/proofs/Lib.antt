@@ -1,0 +1,12 @@
+pub mod Order
+pub mod Bits
+pub mod Shifting
+pub mod Clearing
+pub mod Window
+pub mod Rounds
+pub mod Notes
+pub mod Known
+pub mod Adds
+pub mod Complete
+pub mod Unique
+pub mod Worked

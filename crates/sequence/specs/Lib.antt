@@ -1,0 +1,4 @@
+pub mod Window
+pub mod Sequence
+pub mod Known
+pub mod History

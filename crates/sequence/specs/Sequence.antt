@@ -1,0 +1,93 @@
+-- 01, "Id sequence": what making a sequence, noting an id and asking for completeness answer.
+-- after is one past "the highest": from start up to but not including after are the ids that remain, none is written as after = start,
+-- and since 2^64-1 is never noted after fits 64 bits.
+use Prim.Native.Nat.{ℕ, zero, suc, _+_, _-_, _/_, min, max}
+use mathlib.Core.Bool.{Bool}
+use mathlib.Core.List.{List}
+use lib.ListN.{getD}
+use lib.Dec.{ltb, leb, eqb}
+use Rattle.refusal.specs.Pick.{pick}
+use Rattle.refusal.specs.Refusal.{numberOf, valueOf}
+use Rattle.sequence.specs.Window.{markedAt, allNoted, only, shifted}
+use Rattle.sequence.specs.declared.IdSequence.{IdSequence}
+use Rattle.sequence.specs.declared.Noted.{Noted}
+use Rattle.sequence.specs.declared.Noted.the-variants.{At, Refused}
+
+-- the paper's answers to a note: the sequence after it, or a refusal's number and what it names
+pub data Answer : Type 0 where
+  noted : (start after : ℕ) → Answer
+  refused : (number value : ℕ) → Answer
+
+-- the paper's answer for each case of the code's
+abbrev pub paperNoted : Noted → Answer
+paperNoted (At s) = noted (s .start) (s .after)
+paperNoted (Refused r) = refused (numberOf r) (valueOf r)
+
+-- "Made with a start": none is noted
+abbrev pub newOf : ℕ → IdSequence
+newOf start = record { start = start; after = start }
+
+-- "complete": none remain of the ids from start to the highest
+abbrev pub completeOf : IdSequence → Bool
+completeOf s = leb (s .after) (s .start)
+
+-- a start, and the words from it on
+pub record Moved : Type 0 where
+  pub start : ℕ
+  pub words : List ℕ
+
+abbrev pub moved : ℕ → List ℕ → Moved
+moved start words = record { start = start; words = words }
+
+-- "take the first 64 of them, or all if fewer"
+abbrev pub next : ℕ → ℕ → ℕ
+next after start = min 64 (after - start)
+
+-- the words once "start moves past them": down by one; where none remain, no bit of them is of a noted id, and they stay
+abbrev pub passed : ℕ → ℕ → List ℕ → List ℕ
+passed after start words = pick (ltb 64 (after - start)) (shifted words) words
+
+-- "while ids from start to the highest remain, take the first 64 of them, or all if fewer; if all are noted, start moves past them, else stop":
+-- so at most k times
+unfoldable pub rounds : ℕ → ℕ → ℕ → List ℕ → Moved
+rounds zero after start words = moved start words
+rounds (suc k) after start words =
+    pick (ltb start after)
+    (pick (allNoted (getD words 0 0) (next after start))
+    (rounds k after (start + next after start) (passed after start words))
+    (moved start words))
+    (moved start words)
+
+-- the same with no bound: each time start moves by one at least, so not more often than ids remain
+abbrev pub truncateOf : ℕ → ℕ → List ℕ → Moved
+truncateOf after start words = rounds (after - start) after start words
+
+-- "Noting an id stores it": its bit is set, once the words up to its own hold nothing above the highest, where no id was noted
+abbrev pub stored : IdSequence → List ℕ → ℕ → List ℕ
+stored s words id =
+    markedAt (only (s .after - s .start) ((id - s .start) / 64 + 1) words) (id - s .start)
+
+-- "and raises the highest"
+abbrev pub raised : IdSequence → ℕ → ℕ
+raised s id = max (s .after) (id + 1)
+
+-- an answer, with the words that it leaves
+pub record Outcome : Type 0 where
+  pub answer : Answer
+  pub words : List ℕ
+
+abbrev pub outcome : Answer → List ℕ → Outcome
+outcome answer words = record { answer = answer; words = words }
+
+-- the answer once start has moved
+abbrev pub settled : ℕ → Moved → Outcome
+settled after m = outcome (noted (m .start) after) (m .words)
+
+-- 11 for "an id noted below the sequence's start", 12 for one "4,096 or more above it, or 2^64-1", with the words unchanged;
+-- else the id is stored, the highest raised, "then" start moves
+unfoldable pub noteOf : IdSequence → List ℕ → ℕ → Outcome
+noteOf s words id =
+    pick (ltb id (s .start)) (outcome (refused 11 0) words)
+    (pick (leb 4096 (id - s .start)) (outcome (refused 12 0) words)
+    (pick (eqb id 18446744073709551615) (outcome (refused 12 0) words)
+    (settled (raised s id) (truncateOf (raised s id) (s .start) (stored s words id)))))
