@@ -157,14 +157,17 @@ fn further(store: &mut [u8], state: State, ids: &[u64], ends: &[u64], bytes: &[u
 }
 
 // Two pages for three: the last page of the last entry does not fit.
-fn fill_up(store: &mut [u8], bytes: &[u8]) {
+fn cut_short(store: &mut [u8], bytes: &[u8]) -> State {
     say::text(b"two pages, push 1 with 5 bytes and 2 with 1013: ");
     let first = further(store, State::fresh(), &[1, 2], &[5, 1018], bytes);
     rest(store, 1024);
     say::text(b"  push 2 with 1 byte after that: ");
-    let second = further(store, first, &[2], &[1], bytes);
+    further(store, first, &[2], &[1], bytes)
+}
+
+fn fill_up(store: &mut [u8], state: State, bytes: &[u8]) {
     say::text(b"  push 3 with 1012 bytes after that: ");
-    let third = further(store, second, &[3], &[1012], bytes);
+    let third = further(store, state, &[3], &[1012], bytes);
     say::text(b"  push 4, 2 after that: ");
     further(store, third, &[4, 2], &[0, 0], bytes);
 }
@@ -172,7 +175,8 @@ fn fill_up(store: &mut [u8], bytes: &[u8]) {
 fn no_room() {
     let mut store = two_pages();
     let bytes = io::buffer();
-    fill_up(&mut store, &bytes);
+    let state = cut_short(&mut store, &bytes);
+    fill_up(&mut store, state, &bytes);
 }
 
 fn batches() {
