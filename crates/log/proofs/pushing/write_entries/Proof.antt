@@ -10,19 +10,12 @@ use Rattle.log.specs.Push.{Done, answerOf}
 use Rattle.log.proofs.Filling.{Head, start, above, inside, taken, order, large, no-room, again, finish}
 use Rattle.log.proofs.pushing.write_entries.Statement.{statement}
 use Rattle.log.proofs.pushing.write_entries.Tie as tie
-use Rattle.log.proofs.pushing.write_entries.Reads as reads
-use Rattle.log.proofs.pushing.write_entries.Lts as lts
-use Rattle.log.proofs.pushing.refused.Reads as refused-reads
-use Rattle.log.proofs.state.State.moved.Reads as moved-reads
-use Rattle.page.proofs.Page.blank.Reads as blank-reads
-use Rattle.page.proofs.Page.count.Reads as count-reads
-use Rattle.page.proofs.write_entry.Reads as write-entry-reads
 
 abbrev Inv-loop : tie.InvT-loop
-Inv-loop store₀ state ids ends bytes n image₀ at₀ last₀ from₀ j₀ store image at last from j = Head store₀ state ids ends bytes store image at last from j
+Inv-loop store₀ state ids ends bytes n image₀ at₀ last₀ from₀ written₀ store image at last from written = Head store₀ state ids ends bytes store image at last from written
 
 abbrev μ-loop : tie.MeasureT-loop
-μ-loop store₀ state ids ends bytes n image₀ at₀ last₀ from₀ j₀ store image at last from j = n - j
+μ-loop store₀ state ids ends bytes n image₀ at₀ last₀ from₀ written₀ store image at last from written = n - written
 
 blank-requires : tie.Need-blank-requires Inv-loop μ-loop
 blank-requires c κs = omega arith
@@ -127,8 +120,8 @@ mul-at c = omega arith
 add-at : tie.Need-add-at Inv-loop μ-loop
 add-at c = omega arith
 
-add-j : tie.Need-add-j Inv-loop μ-loop
-add-j c = omega arith
+add-written : tie.Need-add-written Inv-loop μ-loop
+add-written c = omega arith
 
 loop-less : tie.Need-loop-less Inv-loop μ-loop
 loop-less c = omega arith
@@ -187,7 +180,7 @@ write-entries-spec =
     write-entry-requires
     mul-at
     add-at
-    add-j
+    add-written
     loop-less
     loop-again
     moved-requires-4
