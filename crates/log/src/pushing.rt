@@ -29,12 +29,12 @@ pub struct Pushed {
 }
 
 // A push that a refusal ends.
-fn refused(refusal: Refusal, written: u64, state: State) -> Pushed
+fn refused(refusal: Refusal, written: usize, state: State) -> Pushed
     ensures { λ r. ⌜ paperPushed r ≡ answerOf (refused (numberOf refusal) (valueOf refusal)) written state ⌝ }
 {
     Pushed {
         reason: Reason::Refused(refusal),
-        written,
+        written: written as u64,
         state,
     }
 }
@@ -97,29 +97,17 @@ fn write_entries(store: &mut [u8], state: State, ids: &[u64], ends: &[u64], byte
         let id = ids[written];
         let end = ends[written] as usize;
         if id <= last {
-            return refused(
-                Refusal::OutOfOrder,
-                written as u64,
-                state.moved(at as u64, last),
-            );
+            return refused(Refusal::OutOfOrder, written, state.moved(at as u64, last));
         }
         // 3 and 4 use up the id
         last = id;
         let payload = Page::ID + (end - from);
         if PAYLOAD_END <= payload {
-            return refused(
-                Refusal::TooLarge,
-                written as u64,
-                state.moved(at as u64, last),
-            );
+            return refused(Refusal::TooLarge, written, state.moved(at as u64, last));
         }
         let pages = Page::count(payload);
         if (store.len() - at) / Page::SIZE < pages {
-            return refused(
-                Refusal::NoRoom,
-                written as u64,
-                state.moved(at as u64, last),
-            );
+            return refused(Refusal::NoRoom, written, state.moved(at as u64, last));
         }
         page::write_entry(&mut store[at..], &mut image, id, &bytes[from..end]);
         at += pages * Page::SIZE;
