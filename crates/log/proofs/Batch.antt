@@ -82,7 +82,7 @@ module _ (id : ℕ) (d : List ℕ) (p : Point) (o : Open p) (fits : bytesFor d �
   unfolding wrote
   wrote-next = refl
 
-  wrote-last : next .state .last ≡ p .state .last
+  wrote-last : next .state .last ≡ id
   unfolding wrote
   wrote-last = refl
 

@@ -107,7 +107,7 @@ bytesFor d = pagesFor (8 + length d) * pageSize
 unfoldable pub wrote : ℕ → List ℕ → Point → Point
 wrote id d p =
     point
-    (movedTo (p .state) (p .state .length + bytesFor d) (p .state .last))
+    (movedTo (p .state) (p .state .length + bytesFor d) id)
     (entryImage (p .image) id d)
     (logAt p ++ overwritten (drop (p .state .length) (p .store)) (entryPages (p .image) id d))
 

@@ -3,6 +3,7 @@ mod building;
 mod ids;
 mod lookups;
 mod pages;
+mod pushes;
 mod say;
 mod scans;
 mod tails;
@@ -12,5 +13,6 @@ fn main() {
     tails::run();
     lookups::run();
     scans::run();
+    pushes::run();
     ids::run();
 }
