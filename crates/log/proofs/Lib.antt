@@ -34,3 +34,4 @@ pub mod Moving
 pub mod Demands
 pub mod Worked
 pub mod NeverTen
+pub mod OneListing
