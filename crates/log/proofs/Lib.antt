@@ -30,3 +30,4 @@ pub mod Lasting
 pub mod Moving
 pub mod Demands
 pub mod NeverTen
+pub mod OneListing

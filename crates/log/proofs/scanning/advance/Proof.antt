@@ -26,7 +26,7 @@ is-met : (c : tie.After-reached2) →
     met (c .reached2 .given .0 .0) (c .reached2 .given .0 .1 .0) (c .reached2 .given .0 .1 .1 .0) (c .reached2 .given .0 .1 .1 .1 .0) ≡ forwardFrom (args .log .now) (args .range) (args .from)
 is-met c = sym (ap paperReached (c .reached2 .given .1)) ∙ c .before .before .forward .ensures
 
-held : (c : tie.After-reached2) → Lies (c .before .before .before .before .before .args .log .now) (c .reached2 .given .0 .0) (c .reached2 .given .0 .1 .1 .0) (c .reached2 .given .0 .1 .1 .1 .0)
+held : (c : tie.After-reached2) → Lies (c .before .before .before .before .before .args .log .now) (c .before .before .before .before .before .args .range) (c .reached2 .given .0 .0) (c .reached2 .given .0 .1 .0) (c .reached2 .given .0 .1 .1 .0) (c .reached2 .given .0 .1 .1 .1 .0)
 held c = lies _ _ _ _ _ _ _ (sym (is-met c))
 
 returns : tie.Need-returns
