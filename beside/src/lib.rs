@@ -1,0 +1,82 @@
+//! The proved log and nebari's Rust on the same inputs.
+//!
+//! [`Pair`] holds both sides of one log and compares them call by call. What the entries really are is known from
+//! what was pushed, so each comparison is of three: the truth, the proved library, which must give the truth always,
+//! and the Rust, each of whose departures must have a [`Rule`] that names an entry of docs/DIFFERENCES.md.
+pub mod chance;
+pub mod ours;
+pub mod pair;
+pub mod replay;
+pub mod rules;
+pub mod rust;
+pub mod tally;
+
+use std::ops::Bound;
+
+pub use awirbesh::State;
+pub use pair::Pair;
+pub use rules::Rule;
+pub use tally::Tally;
+
+pub const PAGE: u64 = 1024;
+
+/// An entry to push.
+#[derive(Clone, Debug, PartialEq, Eq)]
+pub struct Entry {
+    pub id: u64,
+    pub data: Vec<u8>,
+}
+
+/// An entry of a log, with the pages that it takes.
+#[derive(Clone, Debug, PartialEq, Eq)]
+pub struct Held {
+    pub id: u64,
+    pub page: u64,
+    pub pages: u64,
+    pub data: Vec<u8>,
+}
+
+/// What a lookup answers, on either side. The length is the data's, so the Rust's less 8.
+#[derive(Clone, Debug, PartialEq, Eq)]
+pub enum Looked {
+    Found {
+        position: u64,
+        length: u64,
+        data: Vec<u8>,
+    },
+    Absent {
+        position: u64,
+    },
+    /// A refusal here, an error there.
+    Refused(String),
+    Panicked(String),
+}
+
+/// What a scan hands over, on either side.
+#[derive(Clone, Debug, PartialEq, Eq)]
+pub enum Scanned {
+    Entries(Vec<(u64, Vec<u8>)>),
+    Refused(String),
+    Panicked(String),
+}
+
+/// What a push did, on either side: 0 or the refusal's number, and the state after it.
+#[derive(Clone, Debug, PartialEq, Eq)]
+pub enum PushedBy {
+    Answered { number: u64, state: State },
+    Panicked(String),
+}
+
+/// What a recovery found, on either side.
+#[derive(Clone, Debug, PartialEq, Eq)]
+pub enum RecoveredBy {
+    /// The state, and the bytes that the file has after it.
+    At {
+        state: State,
+        file: u64,
+    },
+    Refused(String),
+    Panicked(String),
+}
+
+pub type Ids = (Bound<u64>, Bound<u64>);

@@ -1,0 +1,215 @@
+//! One log on both sides, and the entries that it really has.
+use std::ops::{Bound, RangeBounds};
+
+use awirbesh::lent;
+
+use crate::{ours::Ours, rules, rust::Rust, Entry, Held, Ids, Looked, PushedBy, RecoveredBy, Rule, Scanned};
+use crate::{State, Tally, PAGE};
+
+pub struct Pair {
+    pub ours: Ours,
+    pub rust: Rust,
+    pub held: Vec<Held>,
+    /// For each page of the log, which entry a walk back from it meets.
+    walk_back: Vec<usize>,
+}
+
+impl Pair {
+    pub fn with_capacity(pages: u64) -> Pair {
+        let ours = Ours::with_capacity((pages * PAGE) as usize);
+        let rust = Rust::of(Vec::new(), ours.state);
+        Pair { ours, rust, held: Vec::new(), walk_back: Vec::new() }
+    }
+
+    pub fn copy(&self) -> Pair {
+        Pair {
+            ours: self.ours.clone(),
+            rust: Rust::of(self.rust.file.bytes.clone(), self.ours.state),
+            held: self.held.clone(),
+            walk_back: self.walk_back.clone(),
+        }
+    }
+
+    pub fn state(&self) -> State {
+        self.ours.state
+    }
+
+    pub fn pages(&self) -> u64 {
+        self.ours.state.length / PAGE
+    }
+
+    /// The log in words, for a report.
+    pub fn words(&self) -> String {
+        let mut words: Vec<String> = Vec::new();
+        let mut end = 0;
+        for held in &self.held {
+            words.extend((end..held.page).map(|_| "idle".to_string()));
+            words.push(format!("{} (payload {})", held.id, held.data.len() + 8));
+            end = held.page + held.pages;
+        }
+        words.extend((end..self.pages()).map(|_| "idle".to_string()));
+        format!("{}; next {}", words.join(", "), self.state().next)
+    }
+
+    pub fn set_next(&mut self, next: u64) {
+        self.ours.state.next = next;
+        self.rust.set(self.ours.state);
+    }
+
+    /// A page with mark 0 after the last entry, which neither side writes but both must read past.
+    pub fn add_idle_page(&mut self, filler: u8) {
+        let from = self.ours.state.length as usize;
+        let page = &mut self.ours.store[from..from + PAGE as usize];
+        page.fill(filler);
+        page[0] = 0;
+        self.rust.file.bytes.extend_from_slice(page);
+        self.ours.state.length += PAGE;
+        self.rust.set(self.ours.state);
+        self.walk_back.push(self.held.len() - 1);
+    }
+
+    /// Pushes a batch on both sides and compares the refusal, the count, the state and every byte; the Rust's answer.
+    pub fn push(&mut self, batch: &[Entry], tally: &mut Tally) -> PushedBy {
+        let before = self.ours.store.clone();
+        let from = self.ours.state;
+        let (by_ours, written) = self.ours.push(batch);
+        let by_rust = self.rust.push(batch);
+        assert_eq!(by_ours, by_rust, "push of {:?} to {}", ids_of(batch), self.words());
+        assert!(self.ours.bytes() == self.rust.file.bytes, "bytes after a push of {:?}", ids_of(batch));
+        let end = self.ours.state.length as usize;
+        assert!(self.ours.store[end..] == before[end..], "bytes past the log changed");
+        self.hold_written(&batch[..written as usize], from.length);
+        tally.compared("pushes");
+        by_rust
+    }
+
+    /// Takes the entries that were written into what is known; their pages must be exactly what the log grew by.
+    fn hold_written(&mut self, written: &[Entry], from: u64) {
+        let mut page = from / PAGE;
+        for entry in written {
+            let payload = entry.data.len() as u64 + 8;
+            let pages = if payload <= 1020 { 1 } else { 1 + (payload - 1020).div_ceil(1023) };
+            self.walk_back.extend((0..pages).map(|_| self.held.len()));
+            self.held.push(Held { id: entry.id, page, pages, data: entry.data.clone() });
+            page += pages;
+        }
+        assert_eq!(page * PAGE, self.ours.state.length, "the written count is not what the log grew by");
+    }
+
+    /// The entry that a walk back from a page meets.
+    pub fn met_walking_back(&self, page: u64) -> Option<&Held> {
+        self.walk_back.get(page as usize).map(|&at| &self.held[at])
+    }
+
+    /// What 01 says of an id on a sound log.
+    pub fn truth(&self, id: u64) -> Looked {
+        if id == 0 {
+            return Looked::Absent { position: 0 };
+        }
+        if id >= self.state().next {
+            return Looked::Absent { position: self.state().length };
+        }
+        match self.held.iter().find(|held| held.id >= id) {
+            None => Looked::Absent { position: self.state().length },
+            Some(held) if held.id > id => Looked::Absent { position: held.page * PAGE },
+            Some(held) => {
+                Looked::Found { position: held.page * PAGE, length: held.data.len() as u64, data: held.data.clone() }
+            }
+        }
+    }
+
+    /// Looks an id up on both sides.
+    pub fn compare_lookup(&mut self, id: u64, tally: &mut Tally) {
+        let truth = self.truth(id);
+        let by_ours = self.ours.lookup(id);
+        assert_eq!(by_ours, truth, "the library's lookup of {id} in {}", self.words());
+        let by_rust = self.rust.lookup(id);
+        tally.compared(match truth {
+            Looked::Found { .. } => "lookups of stored ids",
+            _ => "lookups of absent ids",
+        });
+        if by_rust == truth {
+            return;
+        }
+        match rules::of_lookup(self, id, &by_rust, &truth) {
+            Some(rule) => {
+                let size = (self.pages(), self.state().next, id);
+                tally.name(rule, size, || format!("{}; id {id}", self.words()));
+            }
+            None => panic!("no rule names it: id {id} in {}: the Rust {by_rust:?}, 01 {truth:?}", self.words()),
+        }
+    }
+
+    /// Scans a range on both sides.
+    pub fn compare_scan(&mut self, ids: Ids, tally: &mut Tally) {
+        let beyond = match ids.0 {
+            Bound::Included(id) | Bound::Excluded(id) => id >= self.state().next,
+            Bound::Unbounded => false,
+        };
+        let inside = |held: &&Held| !beyond && ids.contains(&held.id);
+        let truth = Scanned::Entries(self.held.iter().filter(inside).map(|h| (h.id, h.data.clone())).collect());
+        let by_ours = self.ours.scan(ids);
+        assert_eq!(by_ours, truth, "the library's scan of {ids:?} in {}", self.words());
+        let by_rust = self.rust.scan(ids);
+        tally.compared("scans");
+        if by_rust == truth {
+            return;
+        }
+        let lower = match ids.0 {
+            Bound::Included(id) | Bound::Excluded(id) => Some(id),
+            Bound::Unbounded => None,
+        };
+        let panic = match &by_rust {
+            Scanned::Panicked(text) => Some(text.as_str()),
+            _ => None,
+        };
+        match rules::of_scan(self, lower, panic) {
+            Some(rule) => {
+                let size = (self.pages(), self.state().next, lower.unwrap_or(0));
+                tally.name(rule, size, || format!("{}; scan {ids:?}", self.words()));
+            }
+            None => panic!("no rule names it: {ids:?} in {}: the Rust {by_rust:?}, 01 {truth:?}", self.words()),
+        }
+    }
+
+    /// Recovers the log with some bytes of a part page after it, on both sides. Not for an empty log with an excess,
+    /// nor for the last id of all: there the Rust departs, see docs/DIFFERENCES.md.
+    pub fn compare_recovery(&mut self, excess: &[u8], tally: &mut Tally) {
+        let mut bytes = self.ours.bytes().to_vec();
+        bytes.extend_from_slice(excess);
+        let truth = RecoveredBy::At {
+            state: match self.held.last() {
+                None => State { length: 0, last: 0, next: 1 },
+                Some(held) => State { length: self.state().length, last: held.id, next: held.id + 1 },
+            },
+            file: self.state().length,
+        };
+        assert_eq!(crate::ours::recover(&bytes), truth, "the library's recovery of {}", self.words());
+        assert_eq!(crate::rust::recover(&bytes), truth, "the Rust's recovery of {}", self.words());
+        tally.compared("recoveries");
+    }
+
+    /// The log is in the compared domain: sound, and every id is below next.
+    pub fn assert_in_domain(&self) {
+        lent::check(&self.ours.store, self.state().length).expect("a sound log");
+        assert!(self.held.iter().all(|held| held.id < self.state().next));
+    }
+
+    /// Pushes what does not fit into the store: the library refuses 4 there, and the Rust, whose file has no end,
+    /// goes on. Up to that entry the two agree.
+    pub fn compare_without_room(&mut self, batch: &[Entry], tally: &mut Tally) {
+        let (by_ours, written) = self.ours.push(batch);
+        let PushedBy::Answered { number: 4, state } = by_ours else { panic!("not refused with 4: {by_ours:?}") };
+        let by_rust = self.rust.push(batch);
+        assert!(matches!(by_rust, PushedBy::Answered { number: 0, .. }), "{by_rust:?}");
+        assert!(self.rust.file.bytes.starts_with(self.ours.bytes()), "bytes before the refused entry");
+        assert_eq!(state.last, batch[written as usize].id, "4 uses up the id");
+        tally.compared("pushes without room");
+        let input = || format!("a store of {} bytes, push of {:?}", self.ours.store.len(), ids_of(batch));
+        tally.name(Rule::NoRoom, (self.ours.store.len() as u64, batch.len() as u64, 0), input);
+    }
+}
+
+fn ids_of(batch: &[Entry]) -> Vec<(u64, usize)> {
+    batch.iter().map(|entry| (entry.id, entry.data.len())).collect()
+}

@@ -1,0 +1,181 @@
+//! Why the Rust departs: each rule is an entry of docs/DIFFERENCES.md, and looks at the cause, not at the answer alone.
+use nebari::transaction::log::probe::guess;
+
+use crate::{rust::caught, Held, Looked, Pair, PAGE};
+
+/// An entry of docs/DIFFERENCES.md that explains a disagreement on the compared domain.
+#[derive(Clone, Copy, Debug, PartialEq, Eq, PartialOrd, Ord)]
+pub enum Rule {
+    LaterPages,
+    IdlePages,
+    FarApart,
+    AbsentPosition,
+    NoRoom,
+    LowNote,
+    WideNote,
+    LastNote,
+    LastTake,
+}
+
+impl Rule {
+    pub const ALL: [Rule; 9] = [
+        Rule::LaterPages,
+        Rule::IdlePages,
+        Rule::FarApart,
+        Rule::AbsentPosition,
+        Rule::NoRoom,
+        Rule::LowNote,
+        Rule::WideNote,
+        Rule::LastNote,
+        Rule::LastTake,
+    ];
+
+    /// The heading of its entry.
+    pub fn heading(self) -> &'static str {
+        match self {
+            Rule::LaterPages => "A stored id is lost behind later pages",
+            Rule::IdlePages => "A stored id is lost behind idle pages",
+            Rule::FarApart => "Ids far apart overflow the page product",
+            Rule::AbsentPosition => "The position of an absent id",
+            Rule::NoRoom => "A store has an end",
+            Rule::LowNote => "An id noted below the start",
+            Rule::WideNote => "An id noted outside the window",
+            Rule::LastNote => "The last id noted",
+            Rule::LastTake => "The last id taken",
+        }
+    }
+}
+
+/// How the Rust's search for an id goes on a log whose entries are known, by the Rust's own guesses.
+#[derive(Debug, Default)]
+struct Search {
+    /// Some guess's product does not fit in 64 bits.
+    overflowed: bool,
+    /// The page guessed last, and the lower entry at that time.
+    last: Option<(u64, Option<Held>)>,
+}
+
+/// The product inside `guess_page`, between a lower entry and an upper place, is 2^64 or more.
+fn product_overflows(id: u64, lower: &Held, upper_page: u64, upper_id: u64) -> bool {
+    let per_page = (upper_id - lower.id) as f64 / (upper_page - lower.page) as f64;
+    let pages = ((id - lower.id) as f64 * per_page).floor() as u64;
+    let bytes = u128::from(pages.max(1)) * u128::from(PAGE);
+    bytes + u128::from(lower.page * PAGE) > u128::from(u64::MAX)
+}
+
+fn follow(pair: &Pair, id: u64) -> Search {
+    let mut search = Search::default();
+    let (mut upper_page, mut upper_id) = (pair.pages(), pair.state().next);
+    let mut lower: Option<Held> = None;
+    loop {
+        if let Some(low) = &lower {
+            search.overflowed |= product_overflows(id, low, upper_page, upper_id);
+        }
+        let location = lower.as_ref().map(|low| low.page * PAGE);
+        let guessed = caught(|| guess(id, location, lower.as_ref().map(|low| low.id), upper_page * PAGE, upper_id));
+        let Ok(Some(position)) = guessed else { return search };
+        let page = position / PAGE;
+        if page >= upper_page {
+            return search;
+        }
+        search.last = Some((page, lower.clone()));
+        let Some(met) = pair.met_walking_back(page) else { return search };
+        if met.id == id {
+            return search;
+        }
+        if met.id < id {
+            if lower.as_ref().is_some_and(|low| met.id <= low.id) {
+                return search;
+            }
+            lower = Some(met.clone());
+        } else {
+            if met.id >= upper_id {
+                return search;
+            }
+            (upper_page, upper_id) = (met.page, met.id);
+        }
+    }
+}
+
+/// The rule for a lookup on which the Rust does not give the truth; none if no entry names the cause.
+pub fn of_lookup(pair: &Pair, id: u64, rust: &Looked, truth: &Looked) -> Option<Rule> {
+    let search = follow(pair, id);
+    match (rust, truth) {
+        (Looked::Panicked(text), _) => {
+            (cfg!(debug_assertions) && search.overflowed && text.contains("with overflow")).then_some(Rule::FarApart)
+        }
+        (Looked::Absent { .. }, Looked::Found { .. }) if search.overflowed => Some(Rule::FarApart),
+        (Looked::Absent { .. }, Looked::Found { .. }) => {
+            let (page, lower) = search.last?;
+            let lower = lower?;
+            // The walk back from the guess met the lower entry once more, and the Rust took that for the end.
+            if pair.met_walking_back(page)?.id != lower.id {
+                return None;
+            }
+            Some(if page < lower.page + lower.pages { Rule::LaterPages } else { Rule::IdlePages })
+        }
+        // Before the right place, at an entry below the id: a scan from there still meets every entry above it.
+        (Looked::Absent { position }, Looked::Absent { position: right }) => {
+            let met = pair.held.iter().find(|held| held.page * PAGE == *position)?;
+            (position < right && met.id < id).then_some(Rule::AbsentPosition)
+        }
+        _ => None,
+    }
+}
+
+/// The rule for a scan in which the Rust does not give the truth.
+pub fn of_scan(pair: &Pair, lower: Option<u64>, rust_panic: Option<&str>) -> Option<Rule> {
+    let overflowed = lower.is_some_and(|id| id > 0 && id < pair.state().next && follow(pair, id).overflowed);
+    (cfg!(debug_assertions) && overflowed && rust_panic?.contains("with overflow")).then_some(Rule::FarApart)
+}
+
+/// A rule names its cause and nothing else: answers that no cause explains stay without a name.
+#[cfg(test)]
+mod tests {
+    use super::*;
+    use crate::{Entry, Tally};
+
+    fn dense_log() -> Pair {
+        let mut pair = Pair::with_capacity(8);
+        let batch: Vec<Entry> = (1..=4).map(|id| Entry { id, data: Vec::new() }).collect();
+        pair.push(&batch, &mut Tally::default());
+        pair.set_next(5);
+        pair
+    }
+
+    #[test]
+    fn a_lost_id_without_a_cause_has_no_rule() {
+        let pair = dense_log();
+        for id in 1..=4 {
+            for position in [0, 1_024, 4_096] {
+                assert_eq!(of_lookup(&pair, id, &Looked::Absent { position }, &pair.truth(id)), None);
+            }
+        }
+    }
+
+    #[test]
+    fn a_wrong_find_has_no_rule() {
+        let pair = dense_log();
+        let wrong = Looked::Found { position: 0, length: 0, data: Vec::new() };
+        assert_eq!(of_lookup(&pair, 2, &wrong, &pair.truth(2)), None);
+        assert_eq!(of_lookup(&pair, 5, &wrong, &pair.truth(5)), None);
+    }
+
+    #[test]
+    fn an_absent_id_at_a_later_place_has_no_rule() {
+        let mut pair = dense_log();
+        pair.set_next(7);
+        assert_eq!(pair.truth(5), Looked::Absent { position: 4_096 });
+        assert_eq!(of_lookup(&pair, 5, &Looked::Absent { position: 5_120 }, &pair.truth(5)), None);
+        assert_eq!(of_lookup(&pair, 5, &Looked::Absent { position: 512 }, &pair.truth(5)), None);
+    }
+
+    #[test]
+    fn a_panic_without_an_overflow_has_no_rule() {
+        let pair = dense_log();
+        let panic = Looked::Panicked("attempt to multiply with overflow".into());
+        assert_eq!(of_lookup(&pair, 2, &panic, &pair.truth(2)), None);
+        assert_eq!(of_scan(&pair, Some(2), Some("attempt to multiply with overflow")), None);
+        assert_eq!(of_scan(&pair, None, None), None);
+    }
+}

@@ -1,0 +1,229 @@
+//! Each entry of docs/DIFFERENCES.md at its smallest input: what the Rust does in this build, and what we do.
+use awirbesh::{lent, IdSequence, Look, Refusal, State};
+use beside::{chance::Chance, ours, rust, Entry, Looked, Pair, PushedBy, RecoveredBy, Rule, Scanned, Tally, PAGE};
+use nebari::transaction::{manager::probe::Sequence, state::probe};
+
+const CHECKED: bool = cfg!(debug_assertions);
+
+/// A log of entries with payloads; a payload of 0 stands for an idle page.
+fn log_of(entries: &[(u64, usize)], next: u64) -> Pair {
+    let mut tally = Tally::default();
+    let mut pair = Pair::with_capacity(16);
+    for &(id, payload) in entries {
+        match payload {
+            0 => pair.add_idle_page(0),
+            _ => {
+                pair.push(&[Entry { id, data: vec![0x61; payload - 8] }], &mut tally);
+            }
+        }
+    }
+    pair.set_next(next);
+    pair.assert_in_domain();
+    pair
+}
+
+/// The Rust's answer, after ours was found to be the truth.
+fn looked(pair: &mut Pair, id: u64) -> Looked {
+    assert_eq!(pair.ours.lookup(id), pair.truth(id));
+    pair.rust.lookup(id)
+}
+
+fn found(pair: &Pair, id: u64) -> bool {
+    matches!(pair.truth(id), Looked::Found { .. })
+}
+
+#[test]
+fn a_stored_id_is_lost_behind_later_pages() {
+    let mut smallest = log_of(&[(1, 1_021), (2, 8)], 4);
+    assert!(found(&smallest, 2));
+    assert_eq!(looked(&mut smallest, 2), Looked::Absent { position: 0 });
+    // The log of six pages that 01 has.
+    let mut six = log_of(&[(1, 3_000), (2, 8), (3, 8), (4, 8)], 8);
+    assert!(found(&six, 2));
+    assert_eq!(looked(&mut six, 2), Looked::Absent { position: 0 });
+}
+
+#[test]
+fn a_stored_id_is_lost_behind_idle_pages() {
+    let mut smallest = log_of(&[(1, 8), (0, 0), (2, 8)], 4);
+    assert!(found(&smallest, 2));
+    assert_eq!(looked(&mut smallest, 2), Looked::Absent { position: 0 });
+}
+
+#[test]
+fn ids_far_apart_overflow_the_page_product() {
+    // With overflow checks one entry is enough, and the id need not be stored.
+    let mut one = log_of(&[(1, 8)], 134_217_730);
+    let answer = looked(&mut one, 134_217_729);
+    if CHECKED {
+        assert_eq!(answer, Looked::Panicked("attempt to multiply with overflow".into()));
+    } else {
+        assert_eq!(answer, Looked::Absent { position: 1_024 });
+    }
+    assert_eq!(looked(&mut log_of(&[(1, 8)], 134_217_729), 134_217_728), Looked::Absent { position: 1_024 });
+
+    // Without them the product wraps to 0, and a stored id is lost.
+    for (id, next) in [(177_927_642, 202_491_288), (134_217_729, 268_435_457)] {
+        let mut two = log_of(&[(1, 8), (id, 8)], next);
+        assert!(found(&two, id));
+        let answer = looked(&mut two, id);
+        if CHECKED {
+            assert_eq!(answer, Looked::Panicked("attempt to multiply with overflow".into()));
+        } else {
+            assert_eq!(answer, Looked::Absent { position: 0 });
+        }
+    }
+}
+
+/// No smaller next than the one in docs/DIFFERENCES.md loses an id of a log of two pages without overflow checks:
+/// the product, in pages, must be a multiple of 2^54 that is not 0.
+#[test]
+fn the_smallest_wrap_is_the_smallest() {
+    let wraps = |id: u64, next: u64| {
+        let pages = ((id - 1) as f64 * ((next - 1) as f64 / 2.0)).floor() as u64;
+        pages > 0 && pages.is_multiple_of(1 << 54)
+    };
+    let first = (3u64..).find_map(|next| {
+        let near = (1u64 << 55) / (next - 1) + 1;
+        (near.saturating_sub(2)..=near + 2).find(|&id| id > 1 && id < next && wraps(id, next)).map(|id| (id, next))
+    });
+    assert_eq!(first, Some((177_927_642, 202_491_288)));
+}
+
+#[test]
+fn the_position_of_an_absent_id() {
+    let mut smallest = log_of(&[(1, 8), (0, 0)], 3);
+    assert_eq!(smallest.truth(2), Looked::Absent { position: 2_048 });
+    assert_eq!(looked(&mut smallest, 2), Looked::Absent { position: 0 });
+}
+
+#[test]
+fn a_log_under_one_page() {
+    assert_eq!(ours::recover(&[1]), RecoveredBy::At { state: State { length: 0, last: 0, next: 1 }, file: 0 });
+    assert_eq!(lent::recover(&[1], 1).unwrap().excess, 1);
+    match rust::recover(&[1]) {
+        RecoveredBy::Panicked(text) if CHECKED => assert_eq!(text, "attempt to subtract with overflow"),
+        RecoveredBy::Refused(text) if !CHECKED => {
+            assert!(text.contains("No entries found"), "{text}");
+            assert!(text.ends_with("file of 0 bytes"), "{text}");
+        }
+        other => panic!("{other:?}"),
+    }
+}
+
+#[test]
+fn the_last_id_recovered() {
+    let mut pair = Pair::with_capacity(1);
+    pair.push(&[Entry { id: u64::MAX, data: Vec::new() }], &mut Tally::default());
+    let bytes = pair.ours.bytes().to_vec();
+    assert_eq!(lent::recover(&bytes, PAGE), Err(Refusal::IdsUsedUp));
+    match rust::recover(&bytes) {
+        RecoveredBy::Panicked(text) if CHECKED => assert_eq!(text, "attempt to add with overflow"),
+        // It finds the log uninitialized: next is 0, which stands for that.
+        RecoveredBy::At { state, .. } if !CHECKED => {
+            assert_eq!(state, State { length: PAGE, last: u64::MAX, next: 0 });
+        }
+        other => panic!("{other:?}"),
+    }
+}
+
+#[test]
+fn the_last_id_taken() {
+    let mut ours = State { length: 0, last: 0, next: u64::MAX };
+    assert_eq!(ours.take(), Err(Refusal::IdsUsedUp));
+    let rust = probe::state(0, 0, u64::MAX);
+    assert_eq!(rust.new_transaction(std::iter::empty::<&[u8]>()).id, u64::MAX);
+    assert_eq!(rust.next_transaction_id(), 0);
+}
+
+#[test]
+fn notes_that_panic() {
+    for (start, id, refusal) in [(1, 0, Refusal::BelowStart), (1, u64::MAX, Refusal::OutsideWindow)] {
+        assert_eq!(IdSequence::new(start).note(id), Err(refusal));
+        let mut sequence = Sequence::new(start);
+        rust::caught(|| sequence.note(id)).expect_err("the Rust panics");
+    }
+}
+
+#[test]
+fn a_note_outside_the_window() {
+    assert_eq!(IdSequence::new(0).note(4_096), Err(Refusal::OutsideWindow));
+    let mut sequence = Sequence::new(0);
+    sequence.note(4_096);
+    assert_eq!((sequence.start(), sequence.length()), (0, 4_097));
+}
+
+#[test]
+fn a_store_has_an_end() {
+    let mut pair = Pair::with_capacity(0);
+    let entry = [Entry { id: 1, data: Vec::new() }];
+    let state = State { length: 0, last: 1, next: 1 };
+    assert_eq!(pair.ours.push(&entry), (PushedBy::Answered { number: 4, state }, 0));
+    let state = State { length: PAGE, last: 1, next: 1 };
+    assert_eq!(pair.rust.push(&entry), PushedBy::Answered { number: 0, state });
+}
+
+/// Damaged logs: the Rust panics, fails or answers by bytes that are no entry; the library refuses.
+#[test]
+fn damaged_logs() {
+    let damaged = |change: &dyn Fn(&mut Vec<u8>)| {
+        let mut pair = log_of(&[(1, 8), (2, 8)], 3);
+        change(&mut pair.ours.store);
+        pair.rust.file.bytes = pair.ours.bytes().to_vec();
+        (pair.ours.lookup(2), pair.rust.lookup(2))
+    };
+    let refused = |text: &str| Looked::Refused(text.into());
+
+    let (by_ours, by_rust) = damaged(&|store| store[1_024] = 2);
+    assert_eq!(by_ours, refused("refusal 5: bad mark on page 1"));
+    assert_eq!(by_rust, Looked::Panicked("internal error: entered unreachable code: corrupt transaction log".into()));
+
+    let (by_ours, by_rust) = damaged(&|store| store[1_027] = 7);
+    assert_eq!(by_ours, refused("refusal 6: short entry on page 1"));
+    assert!(matches!(by_rust, Looked::Refused(ref text) if text.contains("UnexpectedEof")), "{by_rust:?}");
+
+    let (by_ours, by_rust) = damaged(&|store| store[1_026] = 4);
+    assert_eq!(by_ours, refused("refusal 7: cut entry on page 1"));
+    assert!(matches!(by_rust, Looked::Refused(ref text) if text.contains("UnexpectedEof")), "{by_rust:?}");
+}
+
+/// An id of the log that is not below next is outside the compared domain; both call it absent at the length.
+#[test]
+fn an_id_not_below_next_is_absent_on_both_sides() {
+    let mut pair = log_of(&[(1, 8)], 2);
+    pair.set_next(1);
+    assert_eq!(pair.ours.lookup(1), Looked::Absent { position: PAGE });
+    assert_eq!(pair.rust.lookup(1), Looked::Absent { position: PAGE });
+    assert_eq!(lent::lookup(&pair.ours.store, pair.state(), 1, &mut []), Ok(Look::Absent { position: PAGE }));
+}
+
+/// Bytes past the length are no part of the log; the Rust's scan reads on to the file's end.
+#[test]
+fn bytes_past_the_length() {
+    let mut pair = log_of(&[(1, 8), (2, 8)], 3);
+    pair.ours.state.length = PAGE;
+    pair.rust.set(pair.ours.state);
+    let all = (std::ops::Bound::Unbounded, std::ops::Bound::Unbounded);
+    assert_eq!(pair.ours.scan(all), Scanned::Entries(vec![(1, Vec::new())]));
+    assert_eq!(pair.rust.scan(all), Scanned::Entries(vec![(1, Vec::new()), (2, Vec::new())]));
+}
+
+/// docs/DIFFERENCES.md has an entry for each rule.
+#[test]
+fn each_rule_names_an_entry() {
+    let text = include_str!("../../docs/DIFFERENCES.md");
+    for rule in Rule::ALL {
+        let heading = format!("### {}", rule.heading());
+        assert_eq!(text.lines().filter(|line| *line == heading).count(), 1, "{heading}");
+    }
+}
+
+/// The filling rule is the Rust's: a shorter entry keeps bytes of the longer one before it in the batch.
+#[test]
+fn stale_bytes_are_the_same() {
+    let mut pair = Pair::with_capacity(8);
+    let long = Entry { id: 1, data: Chance::new(1).bytes(2_000) };
+    let short = Entry { id: 2, data: Vec::new() };
+    pair.push(&[long, short], &mut Tally::default());
+    assert!(pair.ours.bytes()[2_048 + 12..3_072].iter().any(|&byte| byte != 0));
+}

@@ -1,0 +1,99 @@
+//! Every small log, every id and every range of ids around it, on both sides.
+use std::ops::Bound;
+
+use beside::{Entry, Ids, Pair, Rule, Tally};
+
+/// Payloads for entries of one, two and three pages, two of each about the boundaries.
+const PAYLOADS: [[usize; 2]; 3] = [[8, 1_020], [1_021, 2_043], [2_044, 3_000]];
+/// Ids go up by these, and next lies these above the last.
+const GAPS: [u64; 3] = [1, 2, 3];
+const AHEAD: [u64; 3] = [1, 2, 4];
+
+/// Calls `look` with every log of up to so many pages: entries of one to three pages, idle pages, gaps of one to three.
+fn every_log(pair: &Pair, pages: u64, tally: &mut Tally, look: &mut dyn FnMut(&mut Pair, &mut Tally)) {
+    let mut this = pair.copy();
+    look(&mut this, tally);
+    let left = pages - pair.pages();
+    for (size, payloads) in (1..=left.min(3)).zip(PAYLOADS) {
+        for gap in GAPS {
+            let id = pair.state().last + gap;
+            // The gap picks the payload, so that both come up with every size.
+            let payload = payloads[(gap as usize + 1) % 2];
+            let data = (0..payload - 8).map(|i| (i as u64 * 31 + id * 7 + size) as u8).collect();
+            let mut longer = pair.copy();
+            longer.push(&[Entry { id, data }], tally);
+            every_log(&longer, pages, tally, look);
+        }
+    }
+    if left > 0 && !pair.held.is_empty() {
+        let mut longer = pair.copy();
+        longer.add_idle_page(0x55);
+        every_log(&longer, pages, tally, look);
+    }
+}
+
+fn for_each_next(pair: &mut Pair, mut look: impl FnMut(&mut Pair)) {
+    for ahead in AHEAD {
+        pair.set_next(pair.state().last + ahead);
+        pair.assert_in_domain();
+        look(pair);
+    }
+}
+
+#[test]
+fn every_lookup_in_every_log_up_to_seven_pages() {
+    let mut tally = Tally::default();
+    let mut logs = 0;
+    every_log(&Pair::with_capacity(7), 7, &mut tally, &mut |pair, tally| {
+        logs += 1;
+        for_each_next(pair, |pair| {
+            for id in 0..=pair.state().next + 1 {
+                pair.compare_lookup(id, tally);
+            }
+        });
+    });
+    tally.add_compared("logs", logs);
+    tally.print("every log up to seven pages");
+
+    // Each departure comes up, at the input that docs/DIFFERENCES.md gives as the smallest.
+    assert_eq!(tally.smallest(Rule::LaterPages), "1 (payload 1021), 2 (payload 8); next 4; id 2");
+    assert_eq!(tally.smallest(Rule::IdlePages), "1 (payload 8), idle, 2 (payload 8); next 4; id 2");
+    assert_eq!(tally.smallest(Rule::AbsentPosition), "1 (payload 8), idle; next 3; id 2");
+    assert_eq!(tally.times(Rule::FarApart), 0);
+}
+
+/// Both ends open, included or excluded, at every id from 0 to two past next.
+fn every_range(next: u64) -> impl Iterator<Item = Ids> {
+    let ends = move || {
+        let closed = (0..=next + 1).flat_map(|id| [Bound::Included(id), Bound::Excluded(id)]);
+        std::iter::once(Bound::Unbounded).chain(closed)
+    };
+    ends().flat_map(move |lower| ends().map(move |upper| (lower, upper)))
+}
+
+#[test]
+fn every_scan_in_every_log_up_to_five_pages() {
+    let mut tally = Tally::default();
+    every_log(&Pair::with_capacity(5), 5, &mut tally, &mut |pair, tally| {
+        for_each_next(pair, |pair| {
+            for ids in every_range(pair.state().next) {
+                pair.compare_scan(ids, tally);
+            }
+        });
+    });
+    tally.print("every log up to five pages, every range");
+    assert!(tally.needed.is_empty(), "scans agree everywhere");
+}
+
+#[test]
+fn every_recovery_of_every_log_up_to_five_pages() {
+    let mut tally = Tally::default();
+    every_log(&Pair::with_capacity(5), 5, &mut tally, &mut |pair, tally| {
+        pair.compare_recovery(&[], tally);
+        if !pair.held.is_empty() {
+            pair.compare_recovery(&[1], tally);
+            pair.compare_recovery(&[0; 1_023], tally);
+        }
+    });
+    tally.print("every log up to five pages, recovered");
+}

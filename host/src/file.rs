@@ -1,0 +1,108 @@
+use std::{
+    fmt,
+    fs::{File, OpenOptions},
+    io::{self, Read, Seek, SeekFrom, Write},
+    path::Path,
+};
+
+use crate::{Entry, Log, PushRefused, Refusal};
+
+/// What can go wrong with a log in a file: the library refuses, or the file does not do what was asked.
+#[derive(Debug)]
+pub enum Error {
+    Refused(Refusal),
+    PushRefused(PushRefused),
+    Io(io::Error),
+}
+
+impl fmt::Display for Error {
+    fn fmt(&self, f: &mut fmt::Formatter<'_>) -> fmt::Result {
+        match self {
+            Error::Refused(refusal) => refusal.fmt(f),
+            Error::PushRefused(refused) => refused.fmt(f),
+            Error::Io(error) => error.fmt(f),
+        }
+    }
+}
+
+impl std::error::Error for Error {}
+
+impl From<Refusal> for Error {
+    fn from(refusal: Refusal) -> Error {
+        Error::Refused(refusal)
+    }
+}
+
+impl From<io::Error> for Error {
+    fn from(error: io::Error) -> Error {
+        Error::Io(error)
+    }
+}
+
+/// A log in a file. The library decides what the bytes are; this type reads, writes and syncs them.
+#[derive(Debug)]
+pub struct LogFile {
+    file: File,
+    log: Log,
+    excess: u64,
+    /// A write failed, so that the file may lack entries that the memory has.
+    behind: bool,
+}
+
+impl LogFile {
+    /// Opens a log, or makes an empty one, for a store of so many bytes; recovers it, and cuts a part page, which
+    /// a crash in the middle of a write leaves, off the file. A second opening at the same time is an error.
+    pub fn open(path: impl AsRef<Path>, capacity: usize) -> Result<LogFile, Error> {
+        let mut file = OpenOptions::new().read(true).write(true).create(true).truncate(false).open(path)?;
+        file.try_lock().map_err(io::Error::from)?;
+        let length = file.metadata()?.len();
+        let mut store = vec![0; capacity];
+        // A longer file is not read to its end: the library refuses a length above the store's size.
+        let kept = length.min(capacity as u64) as usize;
+        file.read_exact(&mut store[..kept])?;
+        let (log, excess) = Log::recover(store, length)?;
+        if excess > 0 {
+            file.set_len(log.state().length)?;
+            file.sync_all()?;
+        }
+        Ok(LogFile { file, log, excess, behind: false })
+    }
+
+    /// Appends entries; once it returns, those that were written are on the disk.
+    pub fn push(&mut self, entries: &[Entry]) -> Result<(), Error> {
+        if self.behind {
+            return Err(io::Error::other("an earlier write failed: open the log again").into());
+        }
+        let before = self.log.state().length;
+        let pushed = self.log.push(entries);
+        if self.log.state().length > before {
+            if let Err(error) = self.write_from(before) {
+                self.behind = true;
+                return Err(error.into());
+            }
+        }
+        pushed.map_err(Error::PushRefused)
+    }
+
+    /// Writes the log's bytes from a position on, and waits until the disk has them.
+    fn write_from(&mut self, position: u64) -> io::Result<()> {
+        self.file.seek(SeekFrom::Start(position))?;
+        self.file.write_all(&self.log.bytes()[position as usize..])?;
+        self.file.sync_data()
+    }
+
+    /// Takes the next id. It is in no file until an entry with it is pushed.
+    pub fn take(&mut self) -> Result<u64, Refusal> {
+        self.log.take()
+    }
+
+    /// The log as it stands in memory, to look into.
+    pub fn log(&self) -> &Log {
+        &self.log
+    }
+
+    /// The bytes that the opening cut off the file's end.
+    pub fn excess(&self) -> u64 {
+        self.excess
+    }
+}

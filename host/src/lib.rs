@@ -1,0 +1,24 @@
+//! A transaction log of entries with ascending ids, for planners that are written in Rust.
+//!
+//! Every decision, which bytes a push writes, where an entry is, what is refused, is made by proved code that
+//! this crate links as an archive. The crate adds what a host has and the library has not: owned memory, files,
+//! iterators and errors.
+//!
+//! - [`LogFile`]: a log in a file, synced after each push.
+//! - [`Log`]: a log in memory.
+//! - [`IdSequence`]: when no earlier id is still out.
+//! - [`lent`]: the same operations over memory that the caller lends, with no allocation.
+//! - [`ffi`]: the archive's functions as they are.
+pub mod ffi;
+mod file;
+pub mod lent;
+mod log;
+mod refusal;
+mod sequence;
+
+pub use ffi::State;
+pub use file::{Error, LogFile};
+pub use lent::{Look, Pushed, Recovered, Step};
+pub use log::{Entry, Log, PushRefused, Scan};
+pub use refusal::Refusal;
+pub use sequence::IdSequence;

@@ -1,0 +1,167 @@
+use std::ops::RangeBounds;
+
+use crate::{ffi, lent, Look, Recovered, Refusal, State, Step};
+
+/// An entry as a scan hands it over, and as a push takes it.
+#[derive(Clone, Debug, PartialEq, Eq)]
+pub struct Entry {
+    pub id: u64,
+    pub data: Vec<u8>,
+}
+
+impl Entry {
+    pub fn new(id: u64, data: impl Into<Vec<u8>>) -> Entry {
+        Entry { id, data: data.into() }
+    }
+}
+
+/// A push that was refused. The entries before the refused one were written and stay.
+#[derive(Clone, Copy, Debug, PartialEq, Eq)]
+pub struct PushRefused {
+    pub refusal: Refusal,
+    /// Entries of the batch that were written.
+    pub written: usize,
+}
+
+impl std::fmt::Display for PushRefused {
+    fn fmt(&self, f: &mut std::fmt::Formatter<'_>) -> std::fmt::Result {
+        write!(f, "{}, after {} written", self.refusal, self.written)
+    }
+}
+
+impl std::error::Error for PushRefused {
+    fn source(&self) -> Option<&(dyn std::error::Error + 'static)> {
+        Some(&self.refusal)
+    }
+}
+
+/// A log in memory: a store of a fixed size and the state of the log in its front.
+#[derive(Clone, Debug)]
+pub struct Log {
+    store: Vec<u8>,
+    state: State,
+}
+
+impl Log {
+    /// An empty log in a store of so many bytes.
+    pub fn with_capacity(bytes: usize) -> Log {
+        Log { store: vec![0; bytes], state: State::fresh() }
+    }
+
+    /// The log that the first `length` bytes of a store hold, by its last entry, and the bytes cut off its end.
+    pub fn recover(store: Vec<u8>, length: u64) -> Result<(Log, u64), Refusal> {
+        let Recovered { state, excess } = lent::recover(&store, length)?;
+        Ok((Log { store, state }, excess))
+    }
+
+    /// Reads the whole log: whether it is sound.
+    pub fn check(&self) -> Result<(), Refusal> {
+        lent::check(&self.store, self.state.length)
+    }
+
+    /// The log's three numbers.
+    pub fn state(&self) -> State {
+        self.state
+    }
+
+    /// The log's bytes.
+    pub fn bytes(&self) -> &[u8] {
+        // A length above the store's size cannot come about: every state here came from the library.
+        &self.store[..self.state.length as usize]
+    }
+
+    /// Takes the next id. One that is never pushed stays absent.
+    pub fn take(&mut self) -> Result<u64, Refusal> {
+        self.state.take()
+    }
+
+    /// Appends entries in ascending order of ids.
+    pub fn push(&mut self, entries: &[Entry]) -> Result<(), PushRefused> {
+        let mut ids = Vec::with_capacity(entries.len());
+        let mut ends = Vec::with_capacity(entries.len());
+        let mut data = Vec::new();
+        for entry in entries {
+            data.extend_from_slice(&entry.data);
+            ids.push(entry.id);
+            ends.push(data.len() as u64);
+        }
+        let pushed = lent::push(&mut self.store, self.state, &ids, &ends, &data);
+        self.state = pushed.state;
+        match pushed.refusal {
+            None => Ok(()),
+            Some(refusal) => Err(PushRefused { refusal, written: pushed.written as usize }),
+        }
+    }
+
+    /// Where an id is, or where it would be.
+    pub fn position(&self, id: u64) -> Result<Look, Refusal> {
+        with_room(&mut Vec::new(), |out| lent::lookup(&self.store, self.state, id, out))
+    }
+
+    /// The data of an id, or none if it is absent.
+    pub fn get(&self, id: u64) -> Result<Option<Vec<u8>>, Refusal> {
+        let mut data = Vec::new();
+        let look = with_room(&mut data, |out| lent::lookup(&self.store, self.state, id, out))?;
+        Ok(match look {
+            Look::Absent { .. } => None,
+            Look::Found { length, .. } => {
+                data.truncate(length as usize);
+                Some(data)
+            }
+        })
+    }
+
+    /// The entries whose ids are in a range, ascending.
+    pub fn scan(&self, ids: impl RangeBounds<u64>) -> Result<Scan<'_>, Refusal> {
+        let range = ffi::Range::of(&ids);
+        let cursor = lent::scan(&self.store, self.state, range)?;
+        Ok(Scan { log: self, range, cursor, buffer: Vec::new(), done: false })
+    }
+}
+
+/// Calls with a buffer, and once more with a larger one where the library says how large.
+fn with_room<T>(buffer: &mut Vec<u8>, mut call: impl FnMut(&mut [u8]) -> Result<T, Refusal>) -> Result<T, Refusal> {
+    match call(buffer) {
+        Err(Refusal::BufferSmall { needed }) => {
+            buffer.resize(needed as usize, 0);
+            call(buffer)
+        }
+        answer => answer,
+    }
+}
+
+/// The entries of a range. A refusal, met on a damaged log, is handed out once and ends the scan.
+#[derive(Debug)]
+pub struct Scan<'a> {
+    log: &'a Log,
+    range: ffi::Range,
+    cursor: u64,
+    buffer: Vec<u8>,
+    done: bool,
+}
+
+impl Iterator for Scan<'_> {
+    type Item = Result<Entry, Refusal>;
+
+    fn next(&mut self) -> Option<Self::Item> {
+        if self.done {
+            return None;
+        }
+        let Scan { log, range, cursor, buffer, .. } = self;
+        match with_room(buffer, |out| lent::step(&log.store, log.state, *range, *cursor, out)) {
+            Ok(Step::Entry { id, length, cursor }) => {
+                self.cursor = cursor;
+                Some(Ok(Entry { id, data: self.buffer[..length as usize].to_vec() }))
+            }
+            Ok(Step::End { cursor }) => {
+                self.cursor = cursor;
+                self.done = true;
+                None
+            }
+            Err(refusal) => {
+                self.done = true;
+                Some(Err(refusal))
+            }
+        }
+    }
+}

@@ -1,0 +1,165 @@
+//! The logs and batches of document 01, through the safe types.
+use awirbesh::{lent, Entry, IdSequence, Log, Look, Refusal, State};
+
+const PAGE: usize = 1024;
+
+fn log_of(entries: &[(u64, usize)], next: u64) -> Log {
+    let mut log = Log::with_capacity(64 * PAGE);
+    while log.state().next < next {
+        log.take().unwrap();
+    }
+    for &(id, payload) in entries {
+        log.push(&[Entry::new(id, vec![id as u8; payload - 8])]).unwrap();
+    }
+    log
+}
+
+#[test]
+fn pages_of_a_payload() {
+    for (payload, pages) in [(8, 1), (1_020, 1), (1_021, 2), (2_043, 2), (2_044, 3), (3_000, 3), (16_777_215, 16_401)] {
+        let mut log = Log::with_capacity(16_401 * PAGE);
+        log.push(&[Entry::new(1, vec![7; payload - 8])]).unwrap();
+        assert_eq!(log.state().length, pages * PAGE as u64, "payload {payload}");
+    }
+}
+
+#[test]
+fn two_pushes_leave_stale_bytes() {
+    let mut log = Log::with_capacity(4 * PAGE);
+    log.push(&[Entry::new(1, "hello"), Entry::new(2, "")]).unwrap();
+    let mut expected = vec![0; 2 * PAGE];
+    expected[..17].copy_from_slice(b"\x01\0\0\x0d\0\0\0\0\0\0\0\x01hello");
+    expected[PAGE..PAGE + 17].copy_from_slice(b"\x01\0\0\x08\0\0\0\0\0\0\0\x02hello");
+    assert_eq!(log.bytes(), expected);
+    assert_eq!(log.state(), State { length: 2048, last: 2, next: 1 });
+    assert_eq!(log.position(1), Ok(Look::Absent { position: 2048 }));
+}
+
+#[test]
+fn the_log_of_six_pages() {
+    let log = log_of(&[(1, 3_000), (2, 8), (3, 8), (4, 8)], 8);
+    assert_eq!(log.position(2), Ok(Look::Found { position: 3_072, length: 0 }));
+    assert_eq!(log.position(5), Ok(Look::Absent { position: 6 * 1024 }));
+    assert_eq!(log.get(1), Ok(Some(vec![1; 2_992])));
+    log.check().unwrap();
+}
+
+#[test]
+fn the_same_id_twice() {
+    let mut log = log_of(&[(5, 8)], 1);
+    let refused = log.push(&[Entry::new(6, ""), Entry::new(6, "")]).unwrap_err();
+    assert_eq!((refused.refusal, refused.written), (Refusal::OutOfOrder, 1));
+    assert_eq!(log.state(), State { length: 2048, last: 6, next: 1 });
+}
+
+#[test]
+fn data_at_the_limit_uses_up_its_id() {
+    let mut log = Log::with_capacity(16_402 * PAGE);
+    log.push(&[Entry::new(6, "")]).unwrap();
+    let bytes = log.bytes().to_vec();
+    let refused = log.push(&[Entry::new(7, vec![0; 16_777_208])]).unwrap_err();
+    assert_eq!((refused.refusal, refused.written), (Refusal::TooLarge, 0));
+    assert_eq!(log.state(), State { length: 1024, last: 7, next: 1 });
+    assert_eq!(log.bytes(), bytes);
+    assert_eq!(log.push(&[Entry::new(7, "")]).unwrap_err().refusal, Refusal::OutOfOrder);
+
+    // One byte more is refused for the whole batch, before any id is looked at.
+    let refused = log.push(&[Entry::new(8, ""), Entry::new(9, vec![0; 16_777_209])]).unwrap_err();
+    assert_eq!((refused.refusal, refused.written), (Refusal::ValueTooLarge, 0));
+    assert_eq!(log.state().last, 7);
+
+    // One byte less is not too large: 16,401 pages, which just fit.
+    let data: Vec<u8> = (0..16_777_207u32).map(|i| (i % 251) as u8).collect();
+    log.push(&[Entry::new(8, data.clone())]).unwrap();
+    assert_eq!(log.state().length, 16_402 * 1024);
+    let (again, excess) = Log::recover(log.bytes().to_vec(), log.state().length).unwrap();
+    assert_eq!((again.state().next, excess), (9, 0));
+    assert!(again.get(8) == Ok(Some(data)));
+    assert_eq!(log.push(&[Entry::new(9, "")]).unwrap_err().refusal, Refusal::NoRoom);
+    assert_eq!(log.state().last, 9);
+}
+
+#[test]
+fn recovery_cuts_an_excess() {
+    let mut log = log_of(&[(9, 8)], 1);
+    log.push(&[Entry::new(10, "")]).unwrap();
+    let (cut, excess) = Log::recover(log.bytes().to_vec(), 1_030).unwrap();
+    assert_eq!((cut.state(), excess), (State { length: 1024, last: 9, next: 10 }, 6));
+    assert_eq!(lent::recover(&[], 0).unwrap().state, State::fresh());
+    assert_eq!(lent::recover(&[], 1), Err(Refusal::BadState));
+}
+
+#[test]
+fn the_sequence_of_four() {
+    let mut sequence = IdSequence::new(1);
+    assert!(sequence.complete());
+    let answers = [3, 1, 2, 4].map(|id| {
+        sequence.note(id).unwrap();
+        sequence.complete()
+    });
+    assert_eq!(answers, [false, false, true, true]);
+    assert_eq!(sequence.note(0), Err(Refusal::BelowStart));
+    assert_eq!(sequence.note(sequence.start() + 4_096), Err(Refusal::OutsideWindow));
+    assert_eq!(sequence.note(u64::MAX), Err(Refusal::OutsideWindow));
+    assert_eq!((sequence.start(), sequence.after()), (5, 5));
+}
+
+#[test]
+fn ids_run_out() {
+    let mut state = State { length: 0, last: 0, next: u64::MAX - 1 };
+    assert_eq!(state.take(), Ok(u64::MAX - 1));
+    assert_eq!(state.take(), Err(Refusal::IdsUsedUp));
+    assert_eq!(state.next, u64::MAX);
+}
+
+#[test]
+fn scans_of_every_kind_of_range() {
+    let log = log_of(&[(2, 8), (3, 3_000), (5, 1_021), (9, 8)], 12);
+    let ids = |scan: awirbesh::Scan| scan.map(|e| e.unwrap().id).collect::<Vec<_>>();
+    assert_eq!(ids(log.scan(..).unwrap()), [2, 3, 5, 9]);
+    assert_eq!(ids(log.scan(3..).unwrap()), [3, 5, 9]);
+    assert_eq!(ids(log.scan(..=5).unwrap()), [2, 3, 5]);
+    assert_eq!(ids(log.scan(4..9).unwrap()), [5]);
+    let after_3 = (std::ops::Bound::Excluded(3), std::ops::Bound::Included(9));
+    assert_eq!(ids(log.scan(after_3).unwrap()), [5, 9]);
+    assert_eq!(ids(log.scan(12..).unwrap()), [] as [u64; 0]);
+    let data: Vec<usize> = log.scan(..).unwrap().map(|e| e.unwrap().data.len()).collect();
+    assert_eq!(data, [0, 2_992, 1_013, 0]);
+}
+
+#[test]
+fn a_scan_hands_a_refusal_out_once() {
+    let log = log_of(&[(1, 8), (2, 8), (3, 8)], 4);
+    let mut bytes = log.bytes().to_vec();
+    bytes[PAGE] = 7;
+    let (damaged, _) = Log::recover(bytes, 3 * 1024).unwrap();
+    let seen: Vec<_> = damaged.scan(..).unwrap().map(|e| e.map(|e| e.id)).collect();
+    assert_eq!(seen, [Ok(1), Err(Refusal::BadMark { page: 1 })]);
+    assert_eq!(damaged.check(), Err(Refusal::BadMark { page: 1 }));
+}
+
+#[test]
+fn every_refusal_has_its_number_and_says_it() {
+    let all = [
+        Refusal::BadState,
+        Refusal::OutOfOrder,
+        Refusal::TooLarge,
+        Refusal::NoRoom,
+        Refusal::BadMark { page: 3 },
+        Refusal::ShortEntry { page: 3 },
+        Refusal::CutEntry { page: 3 },
+        Refusal::NoEntries { page: 3 },
+        Refusal::IdsUsedUp,
+        Refusal::BufferSmall { needed: 3 },
+        Refusal::BelowStart,
+        Refusal::OutsideWindow,
+        Refusal::BadBatch,
+        Refusal::Overlap { page: 3 },
+        Refusal::NotAscending { page: 3 },
+        Refusal::ValueTooLarge,
+    ];
+    for (i, refusal) in all.iter().enumerate() {
+        assert_eq!(refusal.number(), i as u64 + 1);
+        assert!(refusal.to_string().starts_with(&format!("refusal {}: ", i + 1)));
+    }
+}

@@ -1,0 +1,210 @@
+/* awirbesh.h: the proved transaction log, for C and for whoever speaks C's calls.
+ *
+ * Link with target/staticlib/libawirbesh.a (`rt staticlib awirbesh` makes it; x86-64).
+ * This file and host/src/ffi.rs state the same interface; a test on each side calls every function.
+ *
+ * WHO OWNS WHAT. The library owns nothing: it allocates nothing, keeps no pointer after a call returns, has no
+ * global state, does no input or output and never stops the program. The caller lends the store, the batch,
+ * the output and the sequence's words for the length of one call, and keeps the state, the cursor and the
+ * sequence's two numbers, which go in and come out by value. So two threads may call it at once, each on memory
+ * of its own; memory that both only read may be shared.
+ *
+ * WHAT THE CALLER OWES, which no library can test: each pointer is not NULL (also where its length is 0),
+ * points to at least as many elements as the length beside it says, is aligned for its type, and what is
+ * written to (`store` of a push, `out`, `words`) overlaps nothing else that the same call is lent.
+ * Nothing is owed beyond that. Every function ends and answers on every value of every number and byte.
+ *
+ * THE STORE holds the log in its first `state.length` bytes. At most 2^31 bytes; a longer one is refused with 1.
+ *
+ * NUMBERS. `number` is 0 where the call did what it says, else the number of the refusal, and `value` is
+ * what that refusal names: a page for 5 to 8, 14 and 15, the length needed for 10, and 0 for each other.
+ * After a refusal each field that this file does not mention is 0, and outside a push no byte was changed.
+ *
+ *    1 bad state        the store is longer than 2^31 bytes, or the length is no multiple of 1,024 or above the
+ *                       store's size, or a cursor is not at a page boundary or above the length
+ *    2 out of order     an entry's id is not above the last written
+ *    3 too large        its payload, id and data, is 2^24 bytes or more
+ *    4 no room          its pages do not fit between the length and the store's end
+ *    5 bad mark         a mark that was read is neither 0 nor 1
+ *    6 short entry      a start with a payload length under 8
+ *    7 cut entry        a start whose pages run past the log's last whole page; in awirbesh_check also an excess
+ *    8 no entries       page 0 has mark 0
+ *    9 ids used up      recovery found id 2^64-1, or an id was asked for when next is 2^64-1
+ *   10 buffer small     the data is longer than `out`
+ *   11 below start      an id noted below the sequence's start
+ *   12 outside window   an id noted 4,096 or more above it, or 2^64-1
+ *   13 bad batch        the counts of ids and ends differ, or ends fall, or an end is beyond the data
+ *   14 overlap          awirbesh_check only: a start inside an entry
+ *   15 not ascending    awirbesh_check only: an id that is not above the one before
+ *   16 value too large  some data of a batch is longer than 16,777,208 bytes
+ */
+#ifndef AWIRBESH_H
+#define AWIRBESH_H
+
+#include <stddef.h>
+#include <stdint.h>
+
+#ifdef __cplusplus
+extern "C" {
+#endif
+
+enum {
+    AWIRBESH_OK = 0,
+    AWIRBESH_BAD_STATE = 1,
+    AWIRBESH_OUT_OF_ORDER = 2,
+    AWIRBESH_TOO_LARGE = 3,
+    AWIRBESH_NO_ROOM = 4,
+    AWIRBESH_BAD_MARK = 5,
+    AWIRBESH_SHORT_ENTRY = 6,
+    AWIRBESH_CUT_ENTRY = 7,
+    AWIRBESH_NO_ENTRIES = 8,
+    AWIRBESH_IDS_USED_UP = 9,
+    AWIRBESH_BUFFER_SMALL = 10,
+    AWIRBESH_BELOW_START = 11,
+    AWIRBESH_OUTSIDE_WINDOW = 12,
+    AWIRBESH_BAD_BATCH = 13,
+    AWIRBESH_OVERLAP = 14,
+    AWIRBESH_NOT_ASCENDING = 15,
+    AWIRBESH_VALUE_TOO_LARGE = 16
+};
+
+/* ---- what the caller keeps ---- */
+
+/* The log's three numbers. A caller may make one up: a length that cannot be is refused with 1. */
+typedef struct {
+    uint64_t length; /* bytes of the store that are the log */
+    uint64_t last;   /* the id written last, 0 for none; refusals 3 and 4 of a push use up an id too */
+    uint64_t next;   /* the id that awirbesh_take hands out next */
+} awirbesh_state;
+
+/* One end of a range of ids. A kind that is neither 1 nor 2 is open, and its id is not read. */
+enum { AWIRBESH_OPEN = 0, AWIRBESH_INCLUDED = 1, AWIRBESH_EXCLUDED = 2 };
+typedef struct {
+    uint64_t kind;
+    uint64_t id;
+} awirbesh_end;
+
+typedef struct {
+    awirbesh_end lower;
+    awirbesh_end upper;
+} awirbesh_range;
+
+/* An id sequence, beside the 64 words that the caller lends: the ids from `start` up to, but not including,
+ * `after` remain. */
+enum { AWIRBESH_SEQUENCE_WORDS = 64 };
+typedef struct {
+    uint64_t start;
+    uint64_t after;
+} awirbesh_sequence;
+
+/* ---- the state ---- */
+
+/* The state of an empty log: 0, 0, 1. */
+awirbesh_state awirbesh_fresh(void);
+
+typedef struct {
+    uint64_t number;      /* 0 or 9 */
+    uint64_t id;          /* the id handed out */
+    awirbesh_state state; /* next is one more; after a refusal the state as given */
+} awirbesh_taken;
+
+/* Hands out the next id. The state's other numbers are not looked at. */
+awirbesh_taken awirbesh_take(awirbesh_state state);
+
+/* ---- a log as it is found ---- */
+
+typedef struct {
+    uint64_t number; /* 0 if the log is sound, else 1, 5, 6, 7, 8, 14 or 15 */
+    uint64_t value;
+} awirbesh_checked;
+
+/* Reads the whole log, the first `length` bytes of the store, and says whether it is sound. */
+awirbesh_checked awirbesh_check(const uint8_t *store, size_t store_len, uint64_t length);
+
+typedef struct {
+    uint64_t number; /* 0, 1, 5, 6, 7, 8 or 9 */
+    uint64_t value;
+    uint64_t excess;      /* bytes of a part page that were cut off the length: under 1,024 */
+    awirbesh_state state; /* the state to go on with */
+} awirbesh_recovered;
+
+/* The state of the log in the first `length` bytes of the store, by its last entry alone. Changes no byte: the
+ * caller cuts the excess from its file. */
+awirbesh_recovered awirbesh_recover(const uint8_t *store, size_t store_len, uint64_t length);
+
+/* ---- reading ---- */
+
+typedef struct {
+    uint64_t number; /* 0, 1, 5, 6, 7 or 10 */
+    uint64_t value;
+    uint64_t found;    /* 1 if the id is stored, 0 if it is absent */
+    uint64_t position; /* of its first page; absent, where it would be: see below */
+    uint64_t length;   /* of its data, now in the front of `out`; 0 if absent */
+} awirbesh_look;
+
+/* Looks an id up and copies its data to the front of `out`; the rest of `out` keeps its bytes. On a sound log,
+ * for an id from 1 to below next, it is found exactly if stored, and absent it stands at the first entry with a
+ * greater id, or at the length. Id 0 is absent at 0, an id from next on at the length. */
+awirbesh_look awirbesh_lookup(const uint8_t *store, size_t store_len, awirbesh_state state, uint64_t id,
+                              uint8_t *out, size_t out_len);
+
+typedef struct {
+    uint64_t number; /* 0, 1, 5, 6 or 7 */
+    uint64_t value;
+    uint64_t cursor; /* for the first step */
+} awirbesh_started;
+
+/* The cursor at which a scan of the range starts. Only the lower end matters here. */
+awirbesh_started awirbesh_scan(const uint8_t *store, size_t store_len, awirbesh_state state, awirbesh_range range);
+
+enum { AWIRBESH_END = 0, AWIRBESH_ENTRY = 1 };
+typedef struct {
+    uint64_t number; /* 0, 1, 5, 6, 7 or 10 */
+    uint64_t value;
+    uint64_t kind;   /* 1: an entry is handed over; 0: the log's end (and after a refusal) */
+    uint64_t id;     /* of the entry; 0 at the end */
+    uint64_t length; /* of its data, now in the front of `out`; 0 at the end */
+    uint64_t cursor; /* for the next step; after a refusal the cursor as given, so it can be taken always */
+} awirbesh_stepped;
+
+/* The next entry of the range from the cursor on. After 10 the same call with a larger `out` goes on. */
+awirbesh_stepped awirbesh_step(const uint8_t *store, size_t store_len, awirbesh_state state, awirbesh_range range,
+                               uint64_t cursor, uint8_t *out, size_t out_len);
+
+/* ---- writing ---- */
+
+typedef struct {
+    uint64_t number;      /* 0, 1, 2, 3, 4, 13 or 16 */
+    uint64_t written;     /* entries written, the first ones of the batch, refused or not */
+    awirbesh_state state; /* the state to go on with, refused or not */
+} awirbesh_pushed;
+
+/* Appends a batch: entry i has the id ids[i] and the data from ends[i - 1] (0 for the first) to ends[i] of
+ * `data`. 1, 13 and 16 change nothing. 2, 3 and 4 end the push at an entry: those before it stay, and after 3
+ * and 4 its id is used up. Only the pages added, from the old length to the new, are written to. Never moves
+ * next. */
+awirbesh_pushed awirbesh_push(uint8_t *store, size_t store_len, awirbesh_state state, const uint64_t *ids,
+                              size_t ids_len, const uint64_t *ends, size_t ends_len, const uint8_t *data,
+                              size_t data_len);
+
+/* ---- the id sequence ---- */
+
+/* A sequence with nothing noted: sets the 64 words to 0. */
+awirbesh_sequence awirbesh_sequence_new(uint64_t *words, uint64_t start);
+
+typedef struct {
+    uint64_t number;            /* 0, 11 or 12 */
+    awirbesh_sequence sequence; /* after the note; after a refusal as given, with the words unchanged */
+} awirbesh_noted;
+
+/* Notes an id in the 64 words, which only these functions should have written. */
+awirbesh_noted awirbesh_sequence_note(uint64_t *words, awirbesh_sequence sequence, uint64_t id);
+
+/* 1 if every id from the first start to the highest noted has been noted, so also before any note; else 0. */
+uint64_t awirbesh_sequence_complete(awirbesh_sequence sequence);
+
+#ifdef __cplusplus
+}
+#endif
+
+#endif

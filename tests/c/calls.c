@@ -1,0 +1,218 @@
+/* Calls each function of awirbesh.h and holds its whole answer to document 01's worked cases. */
+#include "awirbesh.h"
+
+#include <stdio.h>
+#include <stdlib.h>
+#include <string.h>
+#include <sys/mman.h>
+
+static int failed;
+
+static void same(const char *what, uint64_t got, uint64_t expected)
+{
+    if (got != expected) {
+        printf("%s: %llu, expected %llu\n", what, (unsigned long long)got, (unsigned long long)expected);
+        failed = 1;
+    }
+}
+
+static void same_state(const char *what, awirbesh_state s, uint64_t length, uint64_t last, uint64_t next)
+{
+    same(what, s.length, length);
+    same(what, s.last, last);
+    same(what, s.next, next);
+}
+
+static const awirbesh_range ALL = {{AWIRBESH_OPEN, 0}, {AWIRBESH_OPEN, 0}};
+
+static void states(void)
+{
+    same_state("fresh", awirbesh_fresh(), 0, 0, 1);
+    awirbesh_taken t = awirbesh_take(awirbesh_fresh());
+    same("take number", t.number, AWIRBESH_OK);
+    same("take id", t.id, 1);
+    same_state("take", t.state, 0, 0, 2);
+    awirbesh_state end = {0, 5, UINT64_MAX};
+    t = awirbesh_take(end);
+    same("take at the end", t.number, AWIRBESH_IDS_USED_UP);
+    same("take at the end, id", t.id, 0);
+    same_state("take at the end", t.state, 0, 5, UINT64_MAX);
+}
+
+/* (1, "hello") then (2, none), as 01 has it byte by byte. */
+static void two_entries(void)
+{
+    static uint8_t store[4096], expected[4096], out[16];
+    const uint64_t ids[2] = {1, 2}, ends[2] = {5, 5};
+    memset(store, 0xAA, sizeof store);
+    memset(expected, 0, 2048);
+    memset(expected + 2048, 0xAA, 2048);
+    memcpy(expected, "\1\0\0\15\0\0\0\0\0\0\0\1hello", 17);
+    memcpy(expected + 1024, "\1\0\0\10\0\0\0\0\0\0\0\2hello", 17);
+    awirbesh_pushed p = awirbesh_push(store, sizeof store, awirbesh_fresh(), ids, 2, ends, 2,
+                                      (const uint8_t *)"hello", 5);
+    same("push number", p.number, AWIRBESH_OK);
+    same("push written", p.written, 2);
+    same_state("push", p.state, 2048, 2, 1);
+    same("push bytes", (uint64_t)memcmp(store, expected, sizeof store), 0);
+
+    awirbesh_look l = awirbesh_lookup(store, sizeof store, p.state, 1, out, sizeof out);
+    same("not below next, found", l.found, 0);
+    same("not below next, position", l.position, 2048);
+
+    awirbesh_state state = p.state;
+    state.next = 3;
+    memset(out, '.', sizeof out);
+    l = awirbesh_lookup(store, sizeof store, state, 1, out, sizeof out);
+    same("lookup number", l.number, AWIRBESH_OK);
+    same("lookup found", l.found, 1);
+    same("lookup position", l.position, 0);
+    same("lookup length", l.length, 5);
+    same("lookup out", (uint64_t)memcmp(out, "hello...........", 16), 0);
+    l = awirbesh_lookup(store, sizeof store, state, 1, out, 4);
+    same("small buffer", l.number, AWIRBESH_BUFFER_SMALL);
+    same("small buffer, needed", l.value, 5);
+
+    same("check", awirbesh_check(store, sizeof store, 2048).number, AWIRBESH_OK);
+    awirbesh_checked c = awirbesh_check(store, sizeof store, 2050);
+    same("check of an excess", c.number, AWIRBESH_CUT_ENTRY);
+    same("check of an excess, page", c.value, 2);
+
+    awirbesh_recovered r = awirbesh_recover(store, sizeof store, 1030);
+    same("recover number", r.number, AWIRBESH_OK);
+    same("recover excess", r.excess, 6);
+    same_state("recover", r.state, 1024, 1, 2);
+    r = awirbesh_recover(store, sizeof store, 3072);
+    same("recover a bad mark", r.number, AWIRBESH_BAD_MARK);
+    same("recover a bad mark, page", r.value, 2);
+    same_state("recover a bad mark", r.state, 0, 0, 0);
+
+    awirbesh_started s = awirbesh_scan(store, sizeof store, state, ALL);
+    same("scan number", s.number, AWIRBESH_OK);
+    same("scan cursor", s.cursor, 0);
+    awirbesh_range above = {{AWIRBESH_EXCLUDED, 1}, {AWIRBESH_INCLUDED, 2}};
+    s = awirbesh_scan(store, sizeof store, state, above);
+    same("scan above 1, cursor", s.cursor, 0);
+    awirbesh_stepped e = awirbesh_step(store, sizeof store, state, above, s.cursor, out, sizeof out);
+    same("step number", e.number, AWIRBESH_OK);
+    same("step kind", e.kind, AWIRBESH_ENTRY);
+    same("step id", e.id, 2);
+    same("step length", e.length, 0);
+    same("step cursor", e.cursor, 2048);
+    e = awirbesh_step(store, sizeof store, state, above, e.cursor, out, sizeof out);
+    same("end kind", e.kind, AWIRBESH_END);
+    same("end cursor", e.cursor, 2048);
+    e = awirbesh_step(store, sizeof store, state, above, 1000, out, sizeof out);
+    same("step from inside a page", e.number, AWIRBESH_BAD_STATE);
+    same("its cursor stays", e.cursor, 1000);
+
+    /* A kind that is neither 1 nor 2 is open. */
+    awirbesh_range odd = {{7, 2}, {UINT64_MAX, 1}};
+    same("scan of an odd kind", awirbesh_scan(store, sizeof store, state, odd).cursor, 0);
+    e = awirbesh_step(store, sizeof store, state, odd, 1024, out, sizeof out);
+    same("step of an odd kind", e.id, 2);
+}
+
+/* Data around 2^24 - 8 bytes, which a program of the library's own has no room for. */
+static void large_data(void)
+{
+    size_t store_len = 16402 * 1024, data_len = 16777209;
+    uint8_t *store = calloc(store_len, 1), *data = malloc(data_len);
+    if (!store || !data)
+        abort();
+    memset(data, 7, data_len);
+    awirbesh_state state = {0, 6, 1};
+    uint64_t id = 7, end = 16777208;
+    awirbesh_pushed p = awirbesh_push(store, store_len, state, &id, 1, &end, 1, data, data_len);
+    same("2^24 - 8 bytes", p.number, AWIRBESH_TOO_LARGE);
+    same("2^24 - 8 bytes, written", p.written, 0);
+    same_state("2^24 - 8 bytes", p.state, 0, 7, 1);
+    p = awirbesh_push(store, store_len, p.state, &id, 1, &end, 1, data, data_len);
+    same("the same id again", p.number, AWIRBESH_OUT_OF_ORDER);
+    end = 16777209;
+    id = 8;
+    p = awirbesh_push(store, store_len, p.state, &id, 1, &end, 1, data, data_len);
+    same("one byte more", p.number, AWIRBESH_VALUE_TOO_LARGE);
+    same_state("one byte more", p.state, 0, 7, 1);
+    end = 16777207;
+    p = awirbesh_push(store, store_len, p.state, &id, 1, &end, 1, data, data_len);
+    same("one byte less", p.number, AWIRBESH_OK);
+    same_state("one byte less", p.state, 16401 * 1024, 8, 1);
+    uint64_t two[2] = {9, 10}, ends[2] = {0, 1013};
+    p = awirbesh_push(store, store_len, p.state, two, 2, ends, 2, data, data_len);
+    same("no room for the second", p.number, AWIRBESH_NO_ROOM);
+    same("no room for the second, written", p.written, 1);
+    same_state("no room for the second", p.state, 16402 * 1024, 10, 1);
+    p = awirbesh_push(store, store_len, p.state, two, 2, ends, 1, data, data_len);
+    same("counts differ", p.number, AWIRBESH_BAD_BATCH);
+    free(store);
+    free(data);
+}
+
+/* A store of exactly 2^31 bytes is one, and of one byte more is none. Only pages that are read are ever there. */
+static void largest_store(void)
+{
+    size_t limit = (size_t)1 << 31;
+    uint8_t *store = mmap(0, limit + 4096, PROT_READ | PROT_WRITE, MAP_PRIVATE | MAP_ANONYMOUS | MAP_NORESERVE, -1, 0);
+    if (store == MAP_FAILED)
+        abort();
+    uint8_t out[1];
+    uint64_t id = 3, end = 1;
+    awirbesh_state full = {limit - 1024, 2, 4}, fresh = awirbesh_fresh();
+    awirbesh_pushed p = awirbesh_push(store, limit, full, &id, 1, &end, 1, (const uint8_t *)"x", 1);
+    same("push at the end of 2^31", p.number, AWIRBESH_OK);
+    same("push at the end of 2^31, length", p.state.length, limit);
+    awirbesh_recovered r = awirbesh_recover(store, limit, limit);
+    same("recover 2^31", r.number, AWIRBESH_OK);
+    same_state("recover 2^31", r.state, limit, 3, 4);
+    awirbesh_state found = {limit, 3, 4};
+    same("lookup in 2^31", awirbesh_lookup(store, limit, found, 3, out, 1).position, limit - 1024);
+    same("check of 2^31", awirbesh_check(store, limit, limit).number, AWIRBESH_NO_ENTRIES);
+
+    same("check above", awirbesh_check(store, limit + 1, 0).number, AWIRBESH_BAD_STATE);
+    same("recover above", awirbesh_recover(store, limit + 1, 0).number, AWIRBESH_BAD_STATE);
+    same("lookup above", awirbesh_lookup(store, limit + 1, fresh, 0, out, 1).number, AWIRBESH_BAD_STATE);
+    same("scan above", awirbesh_scan(store, limit + 1, fresh, ALL).number, AWIRBESH_BAD_STATE);
+    same("step above", awirbesh_step(store, limit + 1, fresh, ALL, 0, out, 1).number, AWIRBESH_BAD_STATE);
+    same("push above", awirbesh_push(store, limit + 1, fresh, &id, 0, &end, 1, out, 1).number, AWIRBESH_BAD_STATE);
+    munmap(store, limit + 4096);
+}
+
+static void sequences(void)
+{
+    uint64_t words[AWIRBESH_SEQUENCE_WORDS];
+    memset(words, 0xFF, sizeof words);
+    awirbesh_sequence s = awirbesh_sequence_new(words, 1);
+    same("new start", s.start, 1);
+    same("new after", s.after, 1);
+    for (int i = 0; i < AWIRBESH_SEQUENCE_WORDS; i++)
+        same("new word", words[i], 0);
+    same("complete before any note", awirbesh_sequence_complete(s), 1);
+    const uint64_t ids[4] = {3, 1, 2, 4}, complete[4] = {0, 0, 1, 1};
+    for (int i = 0; i < 4; i++) {
+        awirbesh_noted n = awirbesh_sequence_note(words, s, ids[i]);
+        same("note", n.number, AWIRBESH_OK);
+        s = n.sequence;
+        same("complete", awirbesh_sequence_complete(s), complete[i]);
+    }
+    awirbesh_noted n = awirbesh_sequence_note(words, s, 4);
+    same("below start", n.number, AWIRBESH_BELOW_START);
+    same("below start keeps start", n.sequence.start, s.start);
+    same("below start keeps after", n.sequence.after, s.after);
+    same("the window's end", awirbesh_sequence_note(words, s, s.start + 4096).number, AWIRBESH_OUTSIDE_WINDOW);
+    same("the window's last", awirbesh_sequence_note(words, s, s.start + 4095).number, AWIRBESH_OK);
+    s = awirbesh_sequence_new(words, UINT64_MAX - 1);
+    same("the last id", awirbesh_sequence_note(words, s, UINT64_MAX).number, AWIRBESH_OUTSIDE_WINDOW);
+}
+
+int main(void)
+{
+    states();
+    two_entries();
+    large_data();
+    largest_store();
+    sequences();
+    if (!failed)
+        puts("every function of awirbesh.h answers as document 01 says");
+    return failed;
+}
