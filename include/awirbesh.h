@@ -18,7 +18,9 @@
  *
  * NUMBERS. `number` is 0 where the call did what it says, else the number of the refusal, and `value` is
  * what that refusal names: a page for 5 to 8, 14 and 15, the length needed for 10, and 0 for each other.
- * After a refusal each field that this file does not mention is 0, and outside a push no byte was changed.
+ * After a refusal every other field is 0, but for the state of a take and a push, the cursor of a step and the
+ * sequence of a note, which are there to go on with. Outside a push a refusal changes no byte. Positions,
+ * lengths and ends are bytes; a page's number is its position divided by 1,024.
  *
  *    1 bad state        the store is longer than 2^31 bytes, or the length is no multiple of 1,024 or above the
  *                       store's size, or a cursor is not at a page boundary or above the length
@@ -90,7 +92,7 @@ typedef struct {
 } awirbesh_range;
 
 /* An id sequence, beside the 64 words that the caller lends: the ids from `start` up to, but not including,
- * `after` remain. */
+ * `after`, which is one past the highest noted, remain. A caller may make one up. */
 enum { AWIRBESH_SEQUENCE_WORDS = 64 };
 typedef struct {
     uint64_t start;
@@ -135,16 +137,19 @@ awirbesh_recovered awirbesh_recover(const uint8_t *store, size_t store_len, uint
 /* ---- reading ---- */
 
 typedef struct {
-    uint64_t number; /* 0, 1, 5, 6, 7 or 10 */
+    uint64_t number; /* 0, 1, 5, 6, 7 or, of a lookup alone, 10 */
     uint64_t value;
     uint64_t found;    /* 1 if the id is stored, 0 if it is absent */
     uint64_t position; /* of its first page; absent, where it would be: see below */
-    uint64_t length;   /* of its data, now in the front of `out`; 0 if absent */
+    uint64_t length;   /* of its data; 0 if absent */
 } awirbesh_look;
 
-/* Looks an id up and copies its data to the front of `out`; the rest of `out` keeps its bytes. On a sound log,
- * for an id from 1 to below next, it is found exactly if stored, and absent it stands at the first entry with a
- * greater id, or at the length. Id 0 is absent at 0, an id from next on at the length. */
+/* Looks an id up and copies nothing, so that it never answers 10. On a sound log, for an id from 1 to below next,
+ * it is found exactly if stored, and absent it stands at the first entry with a greater id, or at the length.
+ * Id 0 is absent at 0, an id from next on at the length. */
+awirbesh_look awirbesh_find(const uint8_t *store, size_t store_len, awirbesh_state state, uint64_t id);
+
+/* The same, and copies the data to the front of `out`; the rest of `out` keeps its bytes. */
 awirbesh_look awirbesh_lookup(const uint8_t *store, size_t store_len, awirbesh_state state, uint64_t id,
                               uint8_t *out, size_t out_len);
 
@@ -189,15 +194,16 @@ awirbesh_pushed awirbesh_push(uint8_t *store, size_t store_len, awirbesh_state s
 
 /* ---- the id sequence ---- */
 
-/* A sequence with nothing noted: sets the 64 words to 0. */
-awirbesh_sequence awirbesh_sequence_new(uint64_t *words, uint64_t start);
+/* A sequence with nothing noted. It needs no words, and those that are lent to its first note may hold anything. */
+awirbesh_sequence awirbesh_sequence_new(uint64_t start);
 
 typedef struct {
     uint64_t number;            /* 0, 11 or 12 */
     awirbesh_sequence sequence; /* after the note; after a refusal as given, with the words unchanged */
 } awirbesh_noted;
 
-/* Notes an id in the 64 words, which only these functions should have written. */
+/* Notes an id in the 64 words: lend the same ones at each note of a sequence. No id from `after` on counts as
+ * noted, whatever the words hold; of those from `start` to below `after` the words say which are. */
 awirbesh_noted awirbesh_sequence_note(uint64_t *words, awirbesh_sequence sequence, uint64_t id);
 
 /* 1 if every id from the first start to the highest noted has been noted, so also before any note; else 0. */

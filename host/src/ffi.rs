@@ -115,6 +115,7 @@ extern "C" {
     pub fn awirbesh_take(state: State) -> Taken;
     pub fn awirbesh_check(store: *const u8, store_len: usize, length: u64) -> Checked;
     pub fn awirbesh_recover(store: *const u8, store_len: usize, length: u64) -> Recovered;
+    pub fn awirbesh_find(store: *const u8, store_len: usize, state: State, id: u64) -> Look;
     pub fn awirbesh_lookup(
         store: *const u8,
         store_len: usize,
@@ -144,7 +145,7 @@ extern "C" {
         data: *const u8,
         data_len: usize,
     ) -> Pushed;
-    pub fn awirbesh_sequence_new(words: *mut u64, start: u64) -> Sequence;
+    pub fn awirbesh_sequence_new(start: u64) -> Sequence;
     pub fn awirbesh_sequence_note(words: *mut u64, sequence: Sequence, id: u64) -> Noted;
     pub fn awirbesh_sequence_complete(sequence: Sequence) -> u64;
 }

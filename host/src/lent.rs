@@ -46,13 +46,23 @@ pub enum Look {
     Absent { position: u64 },
 }
 
+impl Look {
+    fn of(look: ffi::Look) -> Result<Look, Refusal> {
+        Refusal::test(look.number, look.value).map(|()| match look.found {
+            0 => Look::Absent { position: look.position },
+            _ => Look::Found { position: look.position, length: look.length },
+        })
+    }
+}
+
+/// Looks an id up and copies nothing, so that no buffer is too small.
+pub fn find(store: &[u8], state: State, id: u64) -> Result<Look, Refusal> {
+    Look::of(unsafe { ffi::awirbesh_find(store.as_ptr(), store.len(), state, id) })
+}
+
 /// Looks an id up and copies its data to the front of `out`.
 pub fn lookup(store: &[u8], state: State, id: u64, out: &mut [u8]) -> Result<Look, Refusal> {
-    let look = unsafe { ffi::awirbesh_lookup(store.as_ptr(), store.len(), state, id, out.as_mut_ptr(), out.len()) };
-    Refusal::test(look.number, look.value).map(|()| match look.found {
-        0 => Look::Absent { position: look.position },
-        _ => Look::Found { position: look.position, length: look.length },
-    })
+    Look::of(unsafe { ffi::awirbesh_lookup(store.as_ptr(), store.len(), state, id, out.as_mut_ptr(), out.len()) })
 }
 
 impl ffi::Range {

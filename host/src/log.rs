@@ -95,7 +95,7 @@ impl Log {
 
     /// Where an id is, or where it would be.
     pub fn position(&self, id: u64) -> Result<Look, Refusal> {
-        with_room(&mut Vec::new(), |out| lent::lookup(&self.store, self.state, id, out))
+        lent::find(&self.store, self.state, id)
     }
 
     /// The data of an id, or none if it is absent.

@@ -10,10 +10,8 @@ pub struct IdSequence {
 impl IdSequence {
     /// Nothing noted yet.
     pub fn new(start: u64) -> IdSequence {
-        // Not zeros: the library sets them, and a test would see it if it did not.
-        let mut words = [u64::MAX; 64];
-        let sequence = unsafe { ffi::awirbesh_sequence_new(words.as_mut_ptr(), start) };
-        IdSequence { words, sequence }
+        // Not zeros: a new sequence may begin over words that hold anything, and a test would see it if it could not.
+        IdSequence { words: [u64::MAX; 64], sequence: unsafe { ffi::awirbesh_sequence_new(start) } }
     }
 
     /// Notes an id as settled.

@@ -279,14 +279,15 @@ static uint64_t some_id(awirbesh_state state)
 
 /* ---- the calls, each held to the model ---- */
 
-enum { TAKE, CHECK, RECOVER, LOOKUP, ABSENT, SCAN, STEP, ENDED, PUSH, NOTE, KINDS };
-static const char *const names[KINDS] = {"take",   "check", "recover", "lookup", "  absent",
-                                         "scan",   "step",  "  end",   "push",   "note"};
+enum { TAKE, CHECK, RECOVER, FIND, LOOKUP, ABSENT, SCAN, STEP, ENDED, PUSH, NOTE, KINDS };
+static const char *const names[KINDS] = {"take", "check", "recover", "find", "lookup", "  absent",
+                                         "scan", "step",  "  end",   "push", "note"};
 /* The refusals that document 01 lets each give, as bits. */
 static const uint32_t possible[KINDS] = {
     1u | 1u << 9,
     1u | 1u << 1 | 1u << 5 | 1u << 6 | 1u << 7 | 1u << 8 | 1u << 14 | 1u << 15,
     1u | 1u << 1 | 1u << 5 | 1u << 6 | 1u << 7 | 1u << 8 | 1u << 9,
+    1u | 1u << 1 | 1u << 5 | 1u << 6 | 1u << 7,
     1u | 1u << 1 | 1u << 5 | 1u << 6 | 1u << 7 | 1u << 10,
     1u,
     1u | 1u << 1 | 1u << 5 | 1u << 6 | 1u << 7,
@@ -344,6 +345,10 @@ static void lend_out(void)
 static void try_lookup(awirbesh_state state)
 {
     uint64_t id = some_id(state);
+    awirbesh_look found = awirbesh_find(store.bytes, store.len, state, id);
+    awirbesh_look place = model_find(store.copy, store.len, state, id);
+    MUST_EQUAL("find", found, place);
+    count(FIND, found.number);
     lend_out();
     awirbesh_look got = awirbesh_lookup(store.bytes, store.len, state, id, out.bytes, out.len);
     awirbesh_look expected = model_lookup(store.copy, store.len, state, id, out.copy, out.len);
@@ -427,11 +432,11 @@ static void try_large_push(awirbesh_state state)
     count(PUSH, got.number);
 }
 
-/* The ids from the first start on that have been noted, and what 01 makes of them. */
+/* The ids from the first start on that have been noted, and what 01 makes of them: a second model, with no words. */
 enum { NOTED = 20000 };
 static uint8_t noted[NOTED];
 
-static awirbesh_noted model_note(uint64_t first, awirbesh_sequence s, uint64_t id)
+static awirbesh_noted note_by_ids(uint64_t first, awirbesh_sequence s, uint64_t id)
 {
     awirbesh_noted r = {0, s};
     if (id < s.start)
@@ -453,7 +458,7 @@ static awirbesh_noted model_note(uint64_t first, awirbesh_sequence s, uint64_t i
     return r;
 }
 
-/* Notes in a sequence from its first start. */
+/* Notes in a sequence from its first start, over words that hold anything. */
 static void try_notes(void)
 {
     uint64_t first = one_in(4) ? UINT64_MAX - below(5000) : any_number(), n = 40 + below(300);
@@ -463,7 +468,7 @@ static void try_notes(void)
     lend(&words, 64 * 8, one_in(2));
     memset(words.bytes, (int)below(256), words.len);
     memset(noted, 0, sizeof noted);
-    awirbesh_sequence s = awirbesh_sequence_new((uint64_t *)words.bytes, first);
+    awirbesh_sequence s = awirbesh_sequence_new(first);
     if (s.start != first || s.after != first)
         stop("sequence_new");
     for (uint64_t i = 0; i < n; i++) {
@@ -473,14 +478,12 @@ static void try_notes(void)
         if (id >= s.start && id - s.start < 4096 && id - first >= NOTED)
             break;
         remember(&words);
-        awirbesh_noted expected = model_note(first, s, id);
+        awirbesh_noted by_ids = note_by_ids(first, s, id);
+        awirbesh_noted expected = model_note((uint64_t *)words.copy, s, id);
         awirbesh_noted got = awirbesh_sequence_note((uint64_t *)words.bytes, s, id);
         MUST_EQUAL("note", got, expected);
-        if (got.number)
-            hold(&words, "a refused note changed the words");
-        else
-            remember(&words);
-        hold(&words, "note");
+        MUST_EQUAL("note by ids", got, by_ids);
+        hold(&words, "note's words");
         s = got.sequence;
         if (awirbesh_sequence_complete(s) != (s.after <= s.start))
             stop("complete");
@@ -488,26 +491,25 @@ static void try_notes(void)
     }
 }
 
-/* Words and numbers that no call ever made: the refusal is still 01's, and nothing else is touched. */
+/* Words and numbers that no call ever made. */
 static void try_made_up_notes(void)
 {
     awirbesh_sequence s = {any_number(), any_number()};
-    uint64_t id = one_in(2) ? s.start + below(5000) : any_number();
-    uint64_t expected = id < s.start ? 11 : id - s.start >= 4096 || id == UINT64_MAX ? 12 : 0;
+    if (one_in(2))
+        s.after = s.start + below(5000);
+    uint64_t id = one_in(2) ? s.start + below(5000) : any_number(), holes = one_in(2) ? 2 : 20;
     lend(&words, 64 * 8, one_in(2));
     for (size_t i = 0; i < words.len; i += 8) {
-        uint64_t word = one_in(2) ? UINT64_MAX : chance();
+        uint64_t word = one_in(holes) ? chance() : UINT64_MAX;
         memcpy(words.bytes + i, &word, 8);
     }
     remember(&words);
+    awirbesh_noted expected = model_note((uint64_t *)words.copy, s, id);
     awirbesh_noted got = awirbesh_sequence_note((uint64_t *)words.bytes, s, id);
-    if (got.number != expected)
-        stop("made-up note");
-    if (got.number == 0)
-        remember(&words);
-    hold(&words, "a refused made-up note changed the words");
+    MUST_EQUAL("made-up note", got, expected);
+    hold(&words, "a made-up note's words");
     count(NOTE, got.number);
-    if (awirbesh_sequence_complete(s) > 1)
+    if (awirbesh_sequence_complete(s) != (s.after <= s.start))
         stop("made-up complete");
 }
 

@@ -72,6 +72,14 @@ static void two_entries(void)
     l = awirbesh_lookup(store, sizeof store, state, 1, out, 4);
     same("small buffer", l.number, AWIRBESH_BUFFER_SMALL);
     same("small buffer, needed", l.value, 5);
+    same("small buffer, position", l.position, 0);
+    l = awirbesh_find(store, sizeof store, state, 2);
+    same("find number", l.number, AWIRBESH_OK);
+    same("find value", l.value, 0);
+    same("find found", l.found, 1);
+    same("find position", l.position, 1024);
+    same("find length", l.length, 0);
+    same("find of 0", awirbesh_find(store, sizeof store, state, 0).found, 0);
 
     same("check", awirbesh_check(store, sizeof store, 2048).number, AWIRBESH_OK);
     awirbesh_checked c = awirbesh_check(store, sizeof store, 2050);
@@ -172,6 +180,7 @@ static void largest_store(void)
     same("check above", awirbesh_check(store, limit + 1, 0).number, AWIRBESH_BAD_STATE);
     same("recover above", awirbesh_recover(store, limit + 1, 0).number, AWIRBESH_BAD_STATE);
     same("lookup above", awirbesh_lookup(store, limit + 1, fresh, 0, out, 1).number, AWIRBESH_BAD_STATE);
+    same("find above", awirbesh_find(store, limit + 1, fresh, 0).number, AWIRBESH_BAD_STATE);
     same("scan above", awirbesh_scan(store, limit + 1, fresh, ALL).number, AWIRBESH_BAD_STATE);
     same("step above", awirbesh_step(store, limit + 1, fresh, ALL, 0, out, 1).number, AWIRBESH_BAD_STATE);
     same("push above", awirbesh_push(store, limit + 1, fresh, &id, 0, &end, 1, out, 1).number, AWIRBESH_BAD_STATE);
@@ -180,13 +189,11 @@ static void largest_store(void)
 
 static void sequences(void)
 {
-    uint64_t words[AWIRBESH_SEQUENCE_WORDS];
+    uint64_t words[AWIRBESH_SEQUENCE_WORDS]; /* which may hold anything */
     memset(words, 0xFF, sizeof words);
-    awirbesh_sequence s = awirbesh_sequence_new(words, 1);
+    awirbesh_sequence s = awirbesh_sequence_new(1);
     same("new start", s.start, 1);
     same("new after", s.after, 1);
-    for (int i = 0; i < AWIRBESH_SEQUENCE_WORDS; i++)
-        same("new word", words[i], 0);
     same("complete before any note", awirbesh_sequence_complete(s), 1);
     const uint64_t ids[4] = {3, 1, 2, 4}, complete[4] = {0, 0, 1, 1};
     for (int i = 0; i < 4; i++) {
@@ -201,7 +208,7 @@ static void sequences(void)
     same("below start keeps after", n.sequence.after, s.after);
     same("the window's end", awirbesh_sequence_note(words, s, s.start + 4096).number, AWIRBESH_OUTSIDE_WINDOW);
     same("the window's last", awirbesh_sequence_note(words, s, s.start + 4095).number, AWIRBESH_OK);
-    s = awirbesh_sequence_new(words, UINT64_MAX - 1);
+    s = awirbesh_sequence_new(UINT64_MAX - 1);
     same("the last id", awirbesh_sequence_note(words, s, UINT64_MAX).number, AWIRBESH_OUTSIDE_WINDOW);
 }
 

@@ -198,12 +198,17 @@ static awirbesh_look search(const uint8_t *log, uint64_t length, uint64_t next, 
     return r;
 }
 
-awirbesh_look model_lookup(const uint8_t *store, size_t store_len, awirbesh_state state, uint64_t id, uint8_t *out,
-                           size_t out_len)
+awirbesh_look model_find(const uint8_t *store, size_t store_len, awirbesh_state state, uint64_t id)
 {
     if (bad_state(store_len, state))
         return (awirbesh_look){1, 0, 0, 0, 0};
-    awirbesh_look r = search(store, state.length, state.next, id);
+    return search(store, state.length, state.next, id);
+}
+
+awirbesh_look model_lookup(const uint8_t *store, size_t store_len, awirbesh_state state, uint64_t id, uint8_t *out,
+                           size_t out_len)
+{
+    awirbesh_look r = model_find(store, store_len, state, id);
     if (r.found && r.length > out_len)
         return (awirbesh_look){10, r.length, 0, 0, 0};
     if (r.found)
@@ -325,5 +330,42 @@ awirbesh_pushed model_push(uint8_t *store, size_t store_len, awirbesh_state stat
         r.state.length += bytes;
         r.written++;
     }
+    return r;
+}
+
+static int bit_of(const uint64_t *words, uint64_t k)
+{
+    return words[k / 64] >> k % 64 & 1;
+}
+
+/* Bit by bit: bit k of the words is for the id start + k, and none from after on is of a noted id. */
+awirbesh_noted model_note(uint64_t *words, awirbesh_sequence s, uint64_t id)
+{
+    awirbesh_noted r = {0, s};
+    if (id < s.start)
+        r.number = 11;
+    else if (id - s.start >= 4096 || id == UINT64_MAX)
+        r.number = 12;
+    if (r.number)
+        return r;
+    uint64_t offset = id - s.start, remain = s.after > s.start ? s.after - s.start : 0;
+    for (uint64_t k = remain; k < (offset / 64 + 1) * 64; k++)
+        words[k / 64] &= ~((uint64_t)1 << k % 64);
+    words[offset / 64] |= (uint64_t)1 << offset % 64;
+    if (id >= s.after)
+        s.after = id + 1;
+    while (s.start < s.after) {
+        uint64_t left = s.after - s.start, turn = left < 64 ? left : 64, noted = 0;
+        while (noted < turn && bit_of(words, noted))
+            noted++;
+        if (noted < turn)
+            break;
+        s.start += turn;
+        if (left > 64) {
+            memmove(words, words + 1, 63 * sizeof *words);
+            words[63] = 0;
+        }
+    }
+    r.sequence = s;
     return r;
 }

@@ -8,6 +8,7 @@
 awirbesh_taken model_take(awirbesh_state state);
 awirbesh_checked model_check(const uint8_t *store, size_t store_len, uint64_t length);
 awirbesh_recovered model_recover(const uint8_t *store, size_t store_len, uint64_t length);
+awirbesh_look model_find(const uint8_t *store, size_t store_len, awirbesh_state state, uint64_t id);
 awirbesh_look model_lookup(const uint8_t *store, size_t store_len, awirbesh_state state, uint64_t id, uint8_t *out,
                            size_t out_len);
 awirbesh_started model_scan(const uint8_t *store, size_t store_len, awirbesh_state state, awirbesh_range range);
@@ -16,5 +17,6 @@ awirbesh_stepped model_step(const uint8_t *store, size_t store_len, awirbesh_sta
 awirbesh_pushed model_push(uint8_t *store, size_t store_len, awirbesh_state state, const uint64_t *ids,
                            size_t ids_len, const uint64_t *ends, size_t ends_len, const uint8_t *data,
                            size_t data_len);
+awirbesh_noted model_note(uint64_t *words, awirbesh_sequence sequence, uint64_t id);
 
 #endif

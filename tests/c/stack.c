@@ -24,9 +24,10 @@ static void take(void) { state = awirbesh_take(state).state; }
 static void check(void) { awirbesh_check(store, STORE, state.length); }
 static void recover(void) { state = awirbesh_recover(store, STORE, state.length).state; }
 static void lookup(void) { awirbesh_lookup(store, STORE, state, 9, out, DATA); }
+static void find(void) { awirbesh_find(store, STORE, state, 9); }
 static void scan(void) { awirbesh_scan(store, STORE, state, part); }
 static void step(void) { awirbesh_step(store, STORE, state, part, 1024, out, DATA); }
-static void sequence_new(void) { awirbesh_sequence_new(words, 1); }
+static void sequence_new(void) { awirbesh_sequence_new(1); }
 static void sequence_note(void) { awirbesh_sequence_note(words, (awirbesh_sequence){1, 1}, 1); }
 static void sequence_complete(void) { awirbesh_sequence_complete((awirbesh_sequence){1, 1}); }
 
@@ -34,9 +35,9 @@ static const struct {
     const char *name;
     void (*call)(void);
 } calls[] = {
-    {"fresh", fresh}, {"push", push},     {"take", take}, {"check", check}, {"recover", recover},
-    {"lookup", lookup}, {"scan", scan},   {"step", step}, {"sequence_new", sequence_new},
-    {"sequence_note", sequence_note},     {"sequence_complete", sequence_complete},
+    {"fresh", fresh},   {"push", push}, {"take", take}, {"check", check}, {"recover", recover}, {"find", find},
+    {"lookup", lookup}, {"scan", scan}, {"step", step}, {"sequence_new", sequence_new},
+    {"sequence_note", sequence_note},   {"sequence_complete", sequence_complete},
 };
 
 static size_t used_by(void (*call)(void))

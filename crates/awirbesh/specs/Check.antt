@@ -1,0 +1,16 @@
+-- The numbers that stand for 01's answers to "Sound check" and "Recovery".
+use Rattle.log.specs.Check.{Checking, sound, refused}
+use Rattle.log.specs.Recover.{Recovering, recovered, refused as unrecovered}
+use Rattle.awirbesh.specs.State.{stateNumbers}
+use Rattle.awirbesh.specs.declared.checking.CheckedNumbers.{CheckedNumbers}
+use Rattle.awirbesh.specs.declared.checking.RecoveredNumbers.{RecoveredNumbers}
+
+abbrev pub checkedNumbers : Checking → CheckedNumbers
+checkedNumbers sound = record { number = 0; value = 0 }
+checkedNumbers (refused number value) = record { number = number; value = value }
+
+-- the state, and the excess whose "size" is "reported"
+abbrev pub recoveredNumbers : Recovering → RecoveredNumbers
+recoveredNumbers (recovered st excess) = record { number = 0; value = 0; excess = excess; state = stateNumbers st }
+recoveredNumbers (unrecovered number value) =
+    record { number = number; value = value; excess = 0; state = record { length = 0; last = 0; next = 0 } }

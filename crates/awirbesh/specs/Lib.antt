@@ -1,0 +1,5 @@
+pub mod State
+pub mod Check
+pub mod Read
+pub mod Push
+pub mod Sequence

@@ -1,0 +1,14 @@
+-- The numbers that stand for 01's answer to "Push".
+use Prim.Native.Nat.{ℕ}
+use Rattle.log.specs.Push.{Why, none, refused, Answer}
+use Rattle.awirbesh.specs.State.{stateNumbers}
+use Rattle.awirbesh.specs.declared.writing.PushedNumbers.{PushedNumbers}
+
+-- the refusal's number; no refusal of a push names a page or a length
+abbrev pub reasonNumber : Why → ℕ
+reasonNumber none = 0
+reasonNumber (refused number value) = number
+
+-- "The answer is the reason, the count of entries written and the state", after a refusal too
+abbrev pub pushedNumbers : Answer → PushedNumbers
+pushedNumbers a = record { number = reasonNumber (a .reason); written = a .written; state = stateNumbers (a .state) }
