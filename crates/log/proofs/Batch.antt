@@ -1,26 +1,26 @@
 -- A push adds to the log the pages of exactly the entries it counts and changes no other byte; a sound log stays sound and holds them. Assumes nothing.
-use Prim.Native.Nat.{ℕ, zero, suc, _+_, _-_, _*_, _^_, _≤_, _<_}
+use Prim.Native.Nat.{ℕ, zero, suc, _+_, _-_, _^_, _≤_, _<_}
 use mathlib.Core.Path.{_≡_, refl, sym, ap, _∙_}
 use mathlib.Core.Bool.{Bool, true, false}
 use mathlib.Core.Logic.{⊎-elim}
-use mathlib.Core.List.{List, [], _++_, append-assoc, append-nil}
+use mathlib.Core.List.{List, _++_, append-assoc, append-nil}
 use native.Mathlib.Omega.{arith}
 use lib.ListN.{length, getD, take, drop, length-append, length-drop}
 use lib.Seq.{take-at, drop-at, drop-drop, length-take-le}
 use Rattle.refusal.specs.Pick.{pick}
-use Rattle.page.specs.Size.{pageSize, pageCount}
+use Rattle.page.specs.Size.{pageSize}
 use Rattle.page.specs.Entry.{idAt}
 use Rattle.page.specs.Write.{entryPages, entryImage}
 use Rattle.page.proofs.Joining.{length-entry}
 use Rattle.page.proofs.Written.{length-blank, length-image}
 use Rattle.log.specs.Bounds.{badState}
-use Rattle.log.specs.Sound.{Start, Sound}
+use Rattle.log.specs.Sound.{Start}
 use Rattle.log.specs.Push.{Why, none, refused, entryData, badBatch, someLarge, Point, logAt, begin, used, bytesFor, wrote, Done, done, entriesFrom, pushOf, pagesFrom, Holds, Ready, Grown, Right}
 use Rattle.log.specs.declared.state.State.{State}
 use Rattle.log.proofs.Cases.{side}
 use Rattle.log.proofs.Bounding.{good}
 use Rattle.log.proofs.Appending.{holds-kept, sound-append, most-append, holds-append}
-use Rattle.log.proofs.Entering.{refuse-state, from-order, from-large, from-full, from-write}
+use Rattle.log.proofs.Entering.{from-order, from-large, from-full, from-write}
 
 -- ---- an entry written
 

@@ -1,6 +1,6 @@
 -- An entry written by a push reads back the same. Assumes nothing.
 use Prim.Native.Nat.{ℕ, zero, suc, _+_, _-_, _*_, _/_, _%_, _^_, _≤_, _<_}
-use mathlib.Core.Path.{_≡_, refl, sym, ap, _∙_}
+use mathlib.Core.Path.{_≡_, refl, _∙_}
 use mathlib.Core.Bool.{Bool, true, false}
 use mathlib.Core.Logic.{⊎-elim}
 use mathlib.Core.List.{List}
@@ -11,8 +11,8 @@ use Rattle.refusal.specs.Pick.{pick}
 use Rattle.page.specs.Size.{pageSize}
 use Rattle.page.specs.Entry.{lengthAt, idAt}
 use Rattle.log.specs.Bounds.{badState}
-use Rattle.log.specs.State.{stateOf, topId, Taking, taken, refused, takeOf}
-use Rattle.log.specs.Sound.{Start, Sound, Last}
+use Rattle.log.specs.State.{stateOf, topId, taken, refused, takeOf}
+use Rattle.log.specs.Sound.{Start, Sound}
 use Rattle.log.specs.Lookup.{found, findOf}
 use Rattle.log.specs.Push.{entryData, pushOf, Holds, Ready}
 use Rattle.log.specs.ReadBack.{Resumes, afterTake, takes, Reads}

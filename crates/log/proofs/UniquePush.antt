@@ -3,7 +3,6 @@ use Prim.Native.Nat.{ℕ}
 use mathlib.Core.Path.{_≡_, refl, sym, ap, _∙_}
 use mathlib.Core.List.{List}
 use native.Mathlib.Omega.{arith}
-use Rattle.refusal.specs.Refusal.{numberOf, valueOf}
 use Rattle.refusal.proofs.Unique.{refusal-unique}
 use Rattle.log.specs.Push.{Answer, paperReason, paperPushed, pushOf}
 use Rattle.log.specs.declared.state.State.{State}
