@@ -275,3 +275,44 @@ module _ (ids ends bytes : List ℕ) (words : (k : ℕ) → getD ids k 0 < 2 ^ 6
 
       whole : (x : Done) → RightFrom ids ends bytes 0 x → Right ids ends bytes x
       whole x h = record { ready = h .ready; held = λ k l. h .held k (omega arith) l }
+
+-- ---- THEOREM: a push that is not refused wrote every entry
+
+-- shut, so that antt sees which push it is asked of
+Whole : ℕ → Done → Type 0
+Whole k r = r .answer .reason ≡ none → r .answer .written ≡ k
+
+module _ (ids ends bytes : List ℕ) where
+  cut-short : (k number j : ℕ) (q : Point) → Whole k (done (refused number 0) j q)
+  unfolding Whole
+  cut-short k number j q e = absurd (let z : _≡_ {A = ℕ} 0 1 = cc in omega arith)
+
+  to-the-end : (k j : ℕ) (q : Point) → j ≡ k → Whole k (done none j q)
+  unfolding Whole
+  to-the-end k j q l e = l
+
+  module _ (k n j : ℕ) (p : Point) (rest : (q : Point) → Whole k (entriesFrom ids ends bytes n (suc j) q)) where
+    whole-turn : Whole k (entriesFrom ids ends bytes (suc n) j p)
+    whole-turn = ⊎-elim
+        (λ a. ⊎-elim
+        (λ b. ⊎-elim
+        (λ c. rw (from-full ids ends bytes n j p a b c) (cut-short k 4 j (used (getD ids j 0) p)))
+        (λ c. rw (from-write ids ends bytes n j p a b c) (rest _))
+        (side (length (p .store) - p .state .length) (bytesFor (entryData ends bytes j))))
+        (λ b. rw (from-large ids ends bytes n j p a b) (cut-short k 3 j (used (getD ids j 0) p)))
+        (side (8 + length (entryData ends bytes j)) (2 ^ 24)))
+        (λ a. rw (from-order ids ends bytes n j p a) (cut-short k 2 j p))
+        (side (p .state .last) (getD ids j 0))
+
+  whole-from : (k n j : ℕ) (p : Point) → j + n ≡ k → Whole k (entriesFrom ids ends bytes n j p)
+  unfolding entriesFrom
+  whole-from k zero j p l = to-the-end k j p (omega arith)
+  whole-from k (suc n) j p l = whole-turn k n j p (λ q. whole-from k n (suc j) q (omega arith))
+
+  pub push-whole : (store : List ℕ) (st : State) → pushOf store st ids ends bytes .answer .reason ≡ none → pushOf store st ids ends bytes .answer .written ≡ length ids
+  unfolding pushOf Whole
+  push-whole store st = picked (badState store (st .length)) _ _ (cut-short (length ids) 1 0 (begin store st)) (picked (badBatch ids ends bytes) _ _ (cut-short (length ids) 13 0 (begin store st)) (picked (someLarge ends bytes) _ _ (cut-short (length ids) 16 0 (begin store st)) (whole-from (length ids) (length ids) 0 (begin store st) (omega arith))))
+    where
+      picked : (t : Bool) (x y : Done) → Whole (length ids) x → Whole (length ids) y → Whole (length ids) (pick t x y)
+      picked true x y a b = a
+      picked false x y a b = b
