@@ -1,9 +1,8 @@
 -- `write_entries` meets its contract: what is left to do is what was to do. Assumes nothing.
-use Prim.Native.Nat.{ℕ, _+_, _-_, _*_, _≤_}
-use mathlib.Core.Path.{_≡_, refl, sym, ap, _∙_}
+use Prim.Native.Nat.{ℕ, _-_, _*_}
+use mathlib.Core.Path.{refl, ap, _∙_}
 use native.Mathlib.Omega.{arith}
-use borrow.Author.Needs.{needs}
-use lib.ListN.{length, getD, length-drop}
+use lib.ListN.{length-drop}
 use Rattle.page.specs.Size.{pageSize}
 use Rattle.page.proofs.Parting.{rest-of}
 use Rattle.log.specs.Push.{Done}
