@@ -1,26 +1,26 @@
 -- A push adds to the log the pages of exactly the entries it counts and changes no other byte; a sound log stays sound and holds them. Assumes nothing.
-use Prim.Native.Nat.{ℕ, zero, suc, _+_, _-_, _*_, _^_, _≤_, _<_}
+use Prim.Native.Nat.{ℕ, zero, suc, _+_, _-_, _^_, _≤_, _<_}
 use mathlib.Core.Path.{_≡_, refl, sym, ap, _∙_}
 use mathlib.Core.Bool.{Bool, true, false}
 use mathlib.Core.Logic.{⊎-elim}
-use mathlib.Core.List.{List, [], _++_, append-assoc, append-nil}
+use mathlib.Core.List.{List, _++_, append-assoc, append-nil}
 use native.Mathlib.Omega.{arith}
 use lib.ListN.{length, getD, take, drop, length-append, length-drop}
 use lib.Seq.{take-at, drop-at, drop-drop, length-take-le}
 use Rattle.refusal.specs.Pick.{pick}
-use Rattle.page.specs.Size.{pageSize, pageCount}
+use Rattle.page.specs.Size.{pageSize}
 use Rattle.page.specs.Entry.{idAt}
 use Rattle.page.specs.Write.{entryPages, entryImage}
 use Rattle.page.proofs.Joining.{length-entry}
 use Rattle.page.proofs.Written.{length-blank, length-image}
 use Rattle.log.specs.Bounds.{badState}
-use Rattle.log.specs.Sound.{Start, Sound}
+use Rattle.log.specs.Sound.{Start}
 use Rattle.log.specs.Push.{Why, none, refused, entryData, badBatch, someLarge, Point, logAt, begin, used, bytesFor, wrote, Done, done, entriesFrom, pushOf, pagesFrom, Holds, Ready, Grown, Right}
 use Rattle.log.specs.declared.state.State.{State}
 use Rattle.log.proofs.Cases.{side}
 use Rattle.log.proofs.Bounding.{good}
 use Rattle.log.proofs.Appending.{holds-kept, sound-append, most-append, holds-append}
-use Rattle.log.proofs.Entering.{refuse-state, from-order, from-large, from-full, from-write}
+use Rattle.log.proofs.Entering.{from-order, from-large, from-full, from-write}
 
 -- ---- an entry written
 
@@ -82,7 +82,7 @@ module _ (id : ℕ) (d : List ℕ) (p : Point) (o : Open p) (fits : bytesFor d �
   unfolding wrote
   wrote-next = refl
 
-  wrote-last : next .state .last ≡ p .state .last
+  wrote-last : next .state .last ≡ id
   unfolding wrote
   wrote-last = refl
 
@@ -275,3 +275,44 @@ module _ (ids ends bytes : List ℕ) (words : (k : ℕ) → getD ids k 0 < 2 ^ 6
 
       whole : (x : Done) → RightFrom ids ends bytes 0 x → Right ids ends bytes x
       whole x h = record { ready = h .ready; held = λ k l. h .held k (omega arith) l }
+
+-- ---- THEOREM: a push that is not refused wrote every entry
+
+-- shut, so that antt sees which push it is asked of
+Whole : ℕ → Done → Type 0
+Whole k r = r .answer .reason ≡ none → r .answer .written ≡ k
+
+module _ (ids ends bytes : List ℕ) where
+  cut-short : (k number j : ℕ) (q : Point) → Whole k (done (refused number 0) j q)
+  unfolding Whole
+  cut-short k number j q e = absurd (let z : _≡_ {A = ℕ} 0 1 = cc in omega arith)
+
+  to-the-end : (k j : ℕ) (q : Point) → j ≡ k → Whole k (done none j q)
+  unfolding Whole
+  to-the-end k j q l e = l
+
+  module _ (k n j : ℕ) (p : Point) (rest : (q : Point) → Whole k (entriesFrom ids ends bytes n (suc j) q)) where
+    whole-turn : Whole k (entriesFrom ids ends bytes (suc n) j p)
+    whole-turn = ⊎-elim
+        (λ a. ⊎-elim
+        (λ b. ⊎-elim
+        (λ c. rw (from-full ids ends bytes n j p a b c) (cut-short k 4 j (used (getD ids j 0) p)))
+        (λ c. rw (from-write ids ends bytes n j p a b c) (rest _))
+        (side (length (p .store) - p .state .length) (bytesFor (entryData ends bytes j))))
+        (λ b. rw (from-large ids ends bytes n j p a b) (cut-short k 3 j (used (getD ids j 0) p)))
+        (side (8 + length (entryData ends bytes j)) (2 ^ 24)))
+        (λ a. rw (from-order ids ends bytes n j p a) (cut-short k 2 j p))
+        (side (p .state .last) (getD ids j 0))
+
+  whole-from : (k n j : ℕ) (p : Point) → j + n ≡ k → Whole k (entriesFrom ids ends bytes n j p)
+  unfolding entriesFrom
+  whole-from k zero j p l = to-the-end k j p (omega arith)
+  whole-from k (suc n) j p l = whole-turn k n j p (λ q. whole-from k n (suc j) q (omega arith))
+
+  pub push-whole : (store : List ℕ) (st : State) → pushOf store st ids ends bytes .answer .reason ≡ none → pushOf store st ids ends bytes .answer .written ≡ length ids
+  unfolding pushOf Whole
+  push-whole store st = picked (badState store (st .length)) _ _ (cut-short (length ids) 1 0 (begin store st)) (picked (badBatch ids ends bytes) _ _ (cut-short (length ids) 13 0 (begin store st)) (picked (someLarge ends bytes) _ _ (cut-short (length ids) 16 0 (begin store st)) (whole-from (length ids) (length ids) 0 (begin store st) (omega arith))))
+    where
+      picked : (t : Bool) (x y : Done) → Whole (length ids) x → Whole (length ids) y → Whole (length ids) (pick t x y)
+      picked true x y a b = a
+      picked false x y a b = b

@@ -1,14 +1,14 @@
 -- What the tests 13 and 16 say of a batch's ends. Assumes nothing.
 use Prim.Native.Nat.{ℕ, zero, suc, _+_, _-_, _≤_, _<_}
 use mathlib.Core.Path.{_≡_, refl}
-use mathlib.Core.Bool.{Bool, true, false, not, _||_, or-true}
+use mathlib.Core.Bool.{Bool, true, false, not, or-true}
 use mathlib.Core.Logic.{⊎-elim}
 use mathlib.Core.List.{List}
 use native.Mathlib.Omega.{arith}
 use native.Mathlib.Numerals.{add-one}
 use borrow.Author.Tests.{ltb-false, eqb-true, not-false, lt-ltb, le-ltb, eq-eqb, ne-eqb}
 use lib.Dec.{ltb, eqb}
-use lib.ListN.{length, getD, take, drop, length-take, length-drop}
+use lib.ListN.{length, getD, length-take, length-drop}
 use Rattle.log.specs.Push.{before, entryData, some, badEnd, badBatch, largeData, someLarge}
 use Rattle.log.proofs.Cases.{side}
 use Rattle.log.proofs.Bounding.{neither}

@@ -13,11 +13,16 @@ use Rattle.page.specs.Write.{blank, overwritten, entryPages, entryImage}
 use Rattle.page.proofs.Written.{length-blank}
 use Rattle.page.proofs.Parting.{put-back}
 use Rattle.log.specs.State.{movedTo}
-use Rattle.log.specs.Push.{none, refused, before, entryData, badBatch, Point, point, begin, used, bytesFor, wrote, Done, done, entriesFrom}
+use Rattle.log.specs.Push.{Why, none, refused, Answer, answerOf, before, entryData, badBatch, Point, point, begin, used, bytesFor, wrote, Done, done, entriesFrom}
 use Rattle.log.specs.declared.state.State.{State}
 use Rattle.log.proofs.Ends.{Lies, good-counts, lies}
 use Rattle.log.proofs.Entering.{from-order, from-large, from-full, from-write}
 
+-- an answer by its count and its state
+pub told : (why : Why) (m j : ℕ) (s t : State) (a : Answer) → m ≡ j → s ≡ t → answerOf why j t ≡ a → answerOf why m s ≡ a
+told why m j s t a e f g = rw (e, f) g
+
+-- what the loop keeps
 pub record Head (store₀ : List ℕ) (st : State) (ids ends bytes store image : List ℕ) (at last from j : ℕ) : Type 0 where
   pub most : j ≤ length ids
   pub good : badBatch ids ends bytes ≡ false
@@ -94,14 +99,15 @@ module _ {store₀ : List ℕ} {st : State} {ids ends bytes store image : List �
             → ys ≡ overwritten (take (length store - at) (drop at store)) (entryPages image (getD ids j 0) (take (getD ends j 0 - from) (drop from bytes)))
             → store′ ≡ take at store ++ (ys ++ drop (length store - at) (drop at store))
             → length store′ ≡ length store → length image′ ≡ length image
-            → Head store₀ st ids ends bytes store′ image′ (at + k) (getD ids j 0) (getD ends j 0) (j + 1)
+            → (at′ j′ : ℕ) → at′ ≡ at + k → j′ ≡ j + 1
+            → Head store₀ st ids ends bytes store′ image′ at′ (getD ids j 0) (getD ends j 0) j′
         unfolding wrote
-        again c store′ ys image′ i y w l m =
+        again c store′ ys image′ i y w l m at′ j′ x z =
             let pages-of = entryPages image (getD ids j 0) (entryData ends bytes j) in
             let s : store′ ≡ take at store ++ overwritten (drop at store) pages-of =
             w ∙ put-back at store pages-of ys (y ∙ rw part) ∙ rw (← drop-drop (length pages-of) at store) in
             let i′ : image′ ≡ entryImage image (getD ids j 0) (entryData ends bytes j) = i ∙ rw part in
-            record {
+            rw (x, z) (record {
               most = omega arith;
               good = h .good;
               counts = h .counts;
@@ -110,7 +116,7 @@ module _ {store₀ : List ℕ} {st : State} {ids ends bytes store image : List �
               full = m ∙ h .full;
               from-is = rw add-one;
               same = ap (λ (i : ℕ). entriesFrom ids ends bytes left i (point (movedTo st (at + k) (getD ids j 0)) image′ store′)) (add-one j) ∙ next s i′;
-            }
+            })
           where
             next : store′ ≡ take at store ++ overwritten (drop at store) (entryPages image (getD ids j 0) (entryData ends bytes j)) → image′ ≡ entryImage image (getD ids j 0) (entryData ends bytes j)
                 → entriesFrom ids ends bytes left (suc j) (point (movedTo st (at + k) (getD ids j 0)) image′ store′) ≡ whole

@@ -1,13 +1,13 @@
 -- The tests before a search, in order: refusal 1, id 0, an id not below next. Assumes nothing.
 use Prim.Native.Nat.{ℕ, _≤_, _<_}
-use mathlib.Core.Path.{_≡_, refl, sym, ap, _∙_}
+use mathlib.Core.Path.{_≡_, ap, _∙_}
 use mathlib.Core.Bool.{true, false}
 use mathlib.Core.List.{List}
 use borrow.Author.Tests.{eq-eqb, ne-eqb, le-leb, lt-leb}
 use lib.ListN.{length, take}
 use Rattle.page.specs.Size.{pageCount}
 use Rattle.log.specs.Bounds.{badState}
-use Rattle.log.specs.Lookup.{Looking, absent, refused, allPages, search, searchOf, findOf}
+use Rattle.log.specs.Lookup.{absent, refused, allPages, search, searchOf, findOf}
 use Rattle.log.specs.declared.state.State.{State}
 use Rattle.log.proofs.Bounding.{good, length-log}
 

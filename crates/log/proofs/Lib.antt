@@ -5,7 +5,6 @@ pub mod Entering
 pub mod Filling
 pub mod Appending
 pub mod Batch
-pub mod UniquePush
 pub mod Onward
 pub mod Stepping
 pub mod Shifting
@@ -15,11 +14,10 @@ pub mod Windows
 pub mod Finding
 pub mod Beginning
 pub mod Listed
-pub mod Placing
+pub mod Positions
 pub mod Handing
 pub mod RightRounds
 pub mod LookupRight
-pub mod UniqueLook
 pub mod Recovering
 pub mod Resuming
 pub mod Unique
@@ -27,5 +25,9 @@ pub mod Turns
 pub mod Passing
 pub mod Handed
 pub mod ScanRight
-pub mod UniqueScan
 pub mod Refusing
+pub mod Lasting
+pub mod Moving
+pub mod Demands
+pub mod NeverTen
+pub mod OneListing

@@ -9,10 +9,10 @@ use borrow.Author.Tests.{lt-ltb, le-ltb}
 use Rattle.refusal.specs.Pick.{pick}
 use Rattle.page.specs.Size.{pagesFor, pageCount}
 use Rattle.page.specs.Mark.{markAt}
-use Rattle.page.specs.Entry.{Starting, whole, refused as torn, entryAt}
+use Rattle.page.specs.Entry.{Starting, whole, refused as torn, lengthAt, idAt, entryAt}
 use Rattle.page.proofs.Counting.{pages-some}
 use Rattle.page.proofs.Marking.{IsBad, mark-cases, by-start, by-later, by-bad}
-use Rattle.page.proofs.Starting.{is-whole}
+use Rattle.page.proofs.Starting.{IsWhole, is-whole}
 use Rattle.log.specs.Range.{holdsOf}
 use Rattle.log.specs.Step.{Reaching, met, none, faulty, Paging, stop, on, entered, atStart, pageOf, roundOf, forward, forwardFrom}
 use Rattle.log.specs.declared.scanning.Range.{Range}
@@ -46,41 +46,51 @@ module _ (log : List ℕ) (range : Range) (p : ℕ) where
   unfolding pageOf
   page-bad m = by-bad (markAt log p) _ _ _ m
 
--- ---- on to a later page, or to an entry within the log
+-- ---- on to a later page, or to an entry of the range within the log
 
-pub record Lies (log : List ℕ) (page len after : ℕ) : Type 0 where
+pub record Lies (log : List ℕ) (range : Range) (page id len after : ℕ) : Type 0 where
+  pub inside : holdsOf range id ≡ true
+  pub id-is : id ≡ idAt log page
+  pub len-is : len ≡ lengthAt log page - 8
   pub room : page + pagesFor (8 + len) ≤ pageCount log
   pub ends : after ≤ pageCount log
 
-abbrev Reaches : List ℕ → Reaching → Type 0
-Reaches log (met page id len after) = Lies log page len after
-Reaches log none = Unit {0}
-Reaches log (faulty n v) = Unit {0}
+abbrev Reaches : List ℕ → Range → Reaching → Type 0
+Reaches log range (met page id len after) = Lies log range page id len after
+Reaches log range none = Unit {0}
+Reaches log range (faulty n v) = Unit {0}
 
-abbrev Says : List ℕ → ℕ → Paging → Type 0
-Says log p (stop r) = Reaches log r
-Says log p (on q) = p < q
+abbrev Says : List ℕ → Range → ℕ → Paging → Type 0
+Says log range p (stop r) = Reaches log range r
+Says log range p (on q) = p < q
 
 module _ (log : List ℕ) (range : Range) (p : ℕ) where
-  in-or-out : (t : Bool) (x y : Paging) → Says log p x → Says log p y → Says log p (pick t x y)
-  in-or-out true x y a b = a
-  in-or-out false x y a b = b
-
-  entry-says : (x : Starting) → entryAt log p ≡ x → Says log p (entered range p x)
+  entry-says : (x : Starting) → entryAt log p ≡ x → Says log range p (entered range p x)
   unfolding entered
   entry-says (torn n v) e = tt
-  entry-says (whole id len after) e =
-      let w = is-whole e in
-      let l : 8 + (len - 8) ≡ len = omega (arith, w .long) in
-      in-or-out (holdsOf range id) (stop (met p id (len - 8) after)) (on after)
-      (record { room = rw l (omega (arith, w .within, w .after-is)); ends = w .within })
-      (omega (arith, w .after-is, pages-some len))
+  entry-says (whole id len after) e = in-or-out (holdsOf range id) refl
+    where
+      w : IsWhole log p id len after
+      w = is-whole e
 
-  start-says : Says log p (atStart log range p)
+      l : 8 + (len - 8) ≡ len
+      l = omega (arith, w .long)
+
+      in-or-out : (t : Bool) → holdsOf range id ≡ t → Says log range p (pick t (stop (met p id (len - 8) after)) (on after))
+      in-or-out true h = record {
+        inside = h;
+        id-is = w .id-is;
+        len-is = omega (arith, w .len-is);
+        room = rw l (omega (arith, w .within, w .after-is));
+        ends = w .within;
+      }
+      in-or-out false h = omega (arith, w .after-is, pages-some len)
+
+  start-says : Says log range p (atStart log range p)
   unfolding atStart
   start-says = entry-says (entryAt log p) refl
 
-  says : Says log p (pageOf log range p)
+  says : Says log range p (pageOf log range p)
   says = ⊎-elim
       (λ (m : markAt log p ≡ 1). rw (page-start log range p m) start-says)
       (⊎-elim
@@ -89,7 +99,7 @@ module _ (log : List ℕ) (range : Range) (p : ℕ) where
       (mark-cases (markAt log p))
 
   pub goes-on : (q : ℕ) → pageOf log range p ≡ on q → p < q
-  goes-on q e = subst (Says log p) e says
+  goes-on q e = subst (Says log range p) e says
 
 -- ---- the rounds
 
@@ -112,21 +122,27 @@ module _ (log : List ℕ) (range : Range) where
   unfolding forward
   forward-none p = refl
 
-  follows : (k p : ℕ) → p < pageCount log → ((q : ℕ) → Reaches log (forward log range k q))
-      → (x : Paging) → pageOf log range p ≡ x → Says log p x → Reaches log (forward log range (suc k) p)
+  follows : (k p : ℕ) → p < pageCount log → ((q : ℕ) → Reaches log range (forward log range k q))
+      → (x : Paging) → pageOf log range p ≡ x → Says log range p x → Reaches log range (forward log range (suc k) p)
   follows k p l rest (stop r) e s = rw (forward-stop k p l r e) s
   follows k p l rest (on q) e s = rw (forward-on k p l q e) (rest q)
 
-  reaches : (k p : ℕ) → Reaches log (forward log range k p)
+  reaches : (k p : ℕ) → Reaches log range (forward log range k p)
   reaches zero p = rw (forward-none p) tt
   reaches (suc k) p = ⊎-elim
       (λ l. follows k p l (reaches k) (pageOf log range p) refl (says log range p))
       (λ l. rw (forward-end (suc k) p l) tt)
       (side p (pageCount log))
 
-  pub lies : (from page id len after : ℕ) → forwardFrom log range from ≡ met page id len after → Lies log page len after
+  pub lies : (from page id len after : ℕ) → forwardFrom log range from ≡ met page id len after → Lies log range page id len after
   unfolding forwardFrom
-  lies from page id len after e = subst (Reaches log) e (reaches (pageCount log) from)
+  lies from page id len after e = subst (Reaches log range) e (reaches (pageCount log) from)
+
+  -- "10 only if its id is in the range": a step comes to no other entry
+  pub met-inside : (from page id len after : ℕ) → forwardFrom log range from ≡ met page id len after → holdsOf range (idAt log page) ≡ true
+  met-inside from page id len after e =
+      let l = lies from page id len after e in
+      subst (λ (x : ℕ). holdsOf range x ≡ true) (l .id-is) (l .inside)
 
 -- ---- what holds at the head of the loop: the rounds from here end as those from the first page
 

@@ -1,10 +1,10 @@
 -- The steps of recovery, as the code takes them. Assumes nothing.
-use Prim.Native.Nat.{ℕ, zero, suc, _-_, _≤_, _<_}
+use Prim.Native.Nat.{ℕ, zero, suc, _-_, _<_}
 use mathlib.Core.Path.{_≡_}
 use mathlib.Core.Bool.{true, false}
 use mathlib.Core.Logic.{⊎-elim}
 use mathlib.Core.List.{List}
-use lib.ListN.{length}
+use lib.ListN.{length, take}
 use native.Mathlib.Omega.{arith}
 use borrow.Author.Tests.{eq-eqb, ne-eqb}
 use Rattle.page.specs.Size.{pageCount}
@@ -13,7 +13,7 @@ use Rattle.page.specs.Entry.{Starting, whole, refused as torn, entryAt}
 use Rattle.page.proofs.Marking.{IsBad, by-start, by-later, by-bad}
 use Rattle.log.specs.Bounds.{tooLong}
 use Rattle.log.specs.State.{fresh, recoveredAt, topId}
-use Rattle.log.specs.Recover.{recovered, refused, atLast, walkBack, excessOf, cutLog, recoverLog, recoverOf}
+use Rattle.log.specs.Recover.{recovered, refused, atLast, walkBack, excessOf, recoverLog, recoverOf}
 use Rattle.log.specs.declared.state.State.{State}
 use Rattle.log.proofs.Cases.{side}
 use Rattle.log.proofs.Bounding.{fits, length-log}
@@ -37,10 +37,11 @@ module _ (n excess : ℕ) (e : Starting) where
 -- ---- the walk back
 
 module _ (log : List ℕ) (excess : ℕ) where
-  pub back-start : (p : ℕ) → markAt log p ≡ 1 → walkBack log excess p ≡ atLast (length log) excess (entryAt log p)
+  -- the start that is read is the one that the walk met
+  pub back-start : (p s : ℕ) → s ≡ p → markAt log p ≡ 1 → walkBack log excess p ≡ atLast (length log) excess (entryAt log s)
   unfolding walkBack
-  back-start zero m = by-start (markAt log 0) _ _ _ m
-  back-start (suc p) m = by-start (markAt log (suc p)) _ _ _ m
+  back-start zero s e m = rw e (by-start (markAt log 0) _ _ _ m)
+  back-start (suc p) s e m = rw e (by-start (markAt log (suc p)) _ _ _ m)
 
   pub back-bad : (p : ℕ) → IsBad (markAt log p) → walkBack log excess p ≡ refused 5 p
   unfolding walkBack
@@ -59,21 +60,22 @@ module _ (log : List ℕ) (excess : ℕ) where
 -- ---- the whole
 
 module _ (store : List ℕ) (n : ℕ) where
-  pub length-cut : n ≤ length store → length (cutLog store n) ≡ n - excessOf n
-  length-cut h = length-log store (n - excessOf n) (omega arith)
-
   pub recover-bad : tooLong store n ≡ true → refused 1 0 ≡ recoverOf store n
   unfolding recoverOf
   recover-bad t = rw t
 
-  module _ (t : tooLong store n ≡ false) where
-    pub recover-fresh : n - excessOf n ≡ 0 → (st : State) → st ≡ fresh → recovered st (excessOf n) ≡ recoverOf store n
-    unfolding recoverOf recoverLog
-    recover-fresh z st f = rw (t, f, eq-eqb (length (cutLog store n)) 0 (omega (arith, length-cut (fits store n t .inside))))
+  -- w: the length after the cut
+  module _ (t : tooLong store n ≡ false) (w : ℕ) (e : w ≡ n - excessOf n) where
+    pub length-cut : length (take w store) ≡ w
+    length-cut = length-log store w (omega (arith, fits store n t .inside))
 
-    pub recover-tail : (n - excessOf n ≡ 0 → ⊥) → walkBack (cutLog store n) (excessOf n) (pageCount (cutLog store n) - 1) ≡ recoverOf store n
-    unfolding recoverOf recoverLog
-    recover-tail z = rw (t, ne-eqb (length (cutLog store n)) 0 (λ e. z (omega (arith, length-cut (fits store n t .inside)))))
+    pub cut-pages : (w ≡ 0 → ⊥) → 0 < pageCount (take w store)
+    cut-pages z = ⊎-elim (λ h. h) (λ h. absurd (z (omega (arith, length-cut)))) (side 0 (pageCount (take w store)))
 
-    pub cut-pages : (n - excessOf n ≡ 0 → ⊥) → 0 < pageCount (cutLog store n)
-    cut-pages z = ⊎-elim (λ h. h) (λ h. absurd (z (omega (arith, length-cut (fits store n t .inside))))) (side 0 (pageCount (cutLog store n)))
+    pub recover-fresh : w ≡ 0 → (st : State) → st ≡ fresh → recovered st (excessOf n) ≡ recoverOf store n
+    unfolding recoverOf recoverLog
+    recover-fresh z st f = rw (t, f, ← e, eq-eqb (length (take w store)) 0 (omega (arith, length-cut)))
+
+    pub recover-tail : (w ≡ 0 → ⊥) → walkBack (take w store) (excessOf n) (pageCount (take w store) - 1) ≡ recoverOf store n
+    unfolding recoverOf recoverLog
+    recover-tail z = rw (t, ← e, ne-eqb (length (take w store)) 0 (λ y. z (omega (arith, length-cut))))

@@ -24,6 +24,18 @@ use Rattle.log.proofs.Cases.{side, order}
 use Rattle.log.proofs.Bounding.{Fits, fits, not-too-long, length-log}
 use Rattle.log.proofs.Recovering.{last-used, last-goes-on, back-start, back-bad, back-later, length-cut, recover-bad, recover-fresh, recover-tail}
 
+-- ---- the last start
+
+pub last-unique : (log : List ℕ) (p q : ℕ) → Last log p → Last log q → p ≡ q
+last-unique log p q l m = omega (arith, l .none q (m .start), m .none p (l .start))
+
+-- on a sound log it has the greatest id
+pub last-greatest : (log : List ℕ) → Sound log → (p q : ℕ) → Last log p → Start log q → idAt log q ≤ idAt log p
+last-greatest log s p q l b = ⊎-elim
+    (λ e. omega (arith, ap (idAt log) e))
+    (⊎-elim (λ a. omega (arith, s .rising q p b (l .start) a)) (λ a. absurd (omega (arith, l .none q b))))
+    (order q p)
+
 -- ---- the walk back on a sound log ends at the last start
 
 pub record Ended (log : List ℕ) (excess from : ℕ) : Type 0 where
@@ -36,7 +48,7 @@ module _ (log : List ℕ) (s : Sound log) (excess : ℕ) where
   start-here p l clear m = record {
     page = p;
     last = record { start = record { inside = l; marked = m }; none = clear };
-    is = back-start log excess p m;
+    is = back-start log excess p p refl m;
   }
 
   walked : (p : ℕ) → p < pageCount log → ((q : ℕ) → Start log q → q ≤ p) → Ended log excess p
@@ -83,12 +95,12 @@ module _ (store : List ℕ) (n : ℕ) (f : Fits store n) (s : Sound (take n stor
       t = not-too-long store n (f .small) (f .inside)
 
       none : n ≤ 0 → RightRecovery (take n store) (recoverOf store n)
-      none z = rw (← recover-fresh store n t (omega arith) fresh refl, no-excess) (empty (omega (arith, length-log store n (f .inside))))
+      none z = rw (← recover-fresh store n t (n - excessOf n) refl (omega arith) fresh refl, no-excess) (empty (omega (arith, length-log store n (f .inside))))
 
       some : 0 < n → RightRecovery (take n store) (recoverOf store n)
       some z =
           let e = walk-ends (take n store) s (excessOf n) (omega (arith, no-excess, length-log store n (f .inside))) in
-          rw (← recover-tail store n t (λ y. omega (arith, no-excess)), uncut, e .is)
+          rw (← recover-tail store n t (n - excessOf n) refl (λ y. omega (arith, no-excess)), uncut, e .is)
           (right-last (take n store) s (excessOf n) no-excess (e .page) (e .last))
 
 -- a recovery that is not refused had a store and a length in bounds
@@ -128,7 +140,7 @@ module _ (log other : List ℕ) (s : ℕ) (start : markAt log s ≡ 1) (size : l
   last-alike p l = rw (entry-same log other p (page-alike p l) (ap (λ (k : ℕ). k / pageSize) size), size)
 
   start-alike : (p : ℕ) → s ≤ p → markAt log p ≡ 1 → walkBack log excess p ≡ walkBack other excess p
-  start-alike p l m = back-start log excess p m ∙ last-alike p l ∙ sym (back-start other excess p (sym (mark-alike p l) ∙ m))
+  start-alike p l m = back-start log excess p p refl m ∙ last-alike p l ∙ sym (back-start other excess p p refl (sym (mark-alike p l) ∙ m))
 
   back-alike : (p : ℕ) → s ≤ p → walkBack log excess p ≡ walkBack other excess p
   back-alike zero l = let e : s ≡ 0 = omega arith in start-alike 0 l (rw e at start)
@@ -147,10 +159,12 @@ module _ (log other : List ℕ) (s : ℕ) (start : markAt log s ≡ 1) (size : l
 pub recover-alike : (store other : List ℕ) (n s : ℕ) → Fits store n → Fits other n → Start (cutLog store n) s
     → drop (s * pageSize) (cutLog store n) ≡ drop (s * pageSize) (cutLog other n) → recoverOf store n ≡ recoverOf other n
 recover-alike store other n s f g start same =
-    let a = length-cut store n (f .inside) in
-    let b = length-cut other n (g .inside) in
+    let t = not-too-long store n (f .small) (f .inside) in
+    let u = not-too-long other n (g .small) (g .inside) in
+    let a = length-cut store n t (n - excessOf n) refl in
+    let b = length-cut other n u (n - excessOf n) refl in
     let some : n - excessOf n ≡ 0 → ⊥ = λ z. omega (arith, start .inside) in
-    sym (recover-tail store n (not-too-long store n (f .small) (f .inside)) some)
+    sym (recover-tail store n t (n - excessOf n) refl some)
     ∙ back-alike (cutLog store n) (cutLog other n) s (start .marked) (a ∙ sym b) same (excessOf n) (pageCount (cutLog store n) - 1) (omega (arith, start .inside))
     ∙ ap (λ (k : ℕ). walkBack (cutLog other n) (excessOf n) (k / pageSize - 1)) (a ∙ sym b)
-    ∙ recover-tail other n (not-too-long other n (g .small) (g .inside)) some
+    ∙ recover-tail other n u (n - excessOf n) refl some

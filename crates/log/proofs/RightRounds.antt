@@ -1,16 +1,16 @@
 -- On a sound log a round keeps every entry that may have the id in the window, or stops with the right answer. Assumes nothing.
-use Prim.Native.Nat.{ℕ, zero, suc, _+_, _-_, _*_, _≤_, _<_, max}
-use mathlib.Core.Path.{_≡_, refl, sym, ap, _∙_}
-use mathlib.Core.Logic.{_⊎_, inl, inr, ⊎-elim}
+use Prim.Native.Nat.{ℕ, zero, suc, _+_, _-_, _≤_, _<_, max}
+use mathlib.Core.Path.{_≡_, refl, ap, _∙_}
+use mathlib.Core.Logic.{_⊎_, inr, ⊎-elim}
 use mathlib.Core.List.{List}
 use native.Mathlib.Omega.{arith}
 use borrow.Author.Tests.{lt-ltb, le-ltb, eq-eqb, ne-eqb}
-use Rattle.page.specs.Size.{pageSize, pageCount}
+use Rattle.page.specs.Size.{pageCount}
 use Rattle.page.specs.Mark.{markAt}
 use Rattle.page.specs.Entry.{whole, lengthAt, idAt, afterAt, entryAt}
 use Rattle.page.proofs.Starting.{whole-at}
-use Rattle.log.specs.Sound.{Start, Sound, Stored, Missing}
-use Rattle.log.specs.Lookup.{Looking, Window, window, Next, stop, again, offsetIn, compared, met, walk, round, follow, search, Right}
+use Rattle.log.specs.Sound.{Start, Sound}
+use Rattle.log.specs.Lookup.{Window, window, Next, stop, again, offsetIn, compared, met, walk, round, follow, search, Right}
 use Rattle.log.proofs.Cases.{side, order}
 use Rattle.log.proofs.Rounds.{Between, Smaller, smaller, met-start, met-later, walk-at, round-open, offset-below, search-stop, search-step}
 

@@ -6,12 +6,12 @@ use mathlib.Core.List.{List}
 use native.Mathlib.Omega.{arith}
 use borrow.Author.Tests.{lt-ltb, le-ltb, eq-eqb, ne-eqb}
 use Rattle.page.specs.Size.{pageSize, pageCount}
-use Rattle.page.specs.Mark.{markAt, byMark}
-use Rattle.page.specs.Entry.{Starting, whole, refused as torn, lengthAt, idAt, afterAt, entryAt}
+use Rattle.page.specs.Mark.{markAt}
+use Rattle.page.specs.Entry.{Starting, whole, refused as torn, lengthAt, afterAt, entryAt}
 use Rattle.page.proofs.Starting.{is-whole}
 use Rattle.page.proofs.Marking.{IsBad, by-start, by-later, by-bad, mark-cases}
 use Rattle.log.specs.Guess.{offsetOf}
-use Rattle.log.specs.Sound.{Start, Stored}
+use Rattle.log.specs.Sound.{Stored}
 use Rattle.log.specs.Lookup.{Looking, found, absent, refused, Window, window, Next, stop, again, offsetIn, compared, met, walk, round, follow, search}
 use Rattle.log.proofs.Cases.{order, side}
 

@@ -16,10 +16,15 @@ use Rattle.page.proofs.Starting.{IsWhole, is-whole}
 use Rattle.log.specs.Bounds.{tooLong}
 use Rattle.log.specs.Check.{sound, refused, Turning, on, fault, laterPages, atStart, atPage, atEnd, checkFrom, checkOf}
 use Rattle.log.proofs.Cases.{side}
+use Rattle.log.proofs.Bounding.{fits, length-log}
 
 -- ---- the later pages of an entry
 
 module _ (log : List ℕ) (id : ℕ) where
+  -- the first page that is read is the first that is asked for
+  pub later-from : (after p from : ℕ) → p ≡ from → laterPages log id (after - p) p ≡ laterPages log id (after - from) from
+  later-from after p from e = rw e
+
   pub later-done : (k p : ℕ) → k ≡ 0 → laterPages log id k p ≡ on p id
   unfolding laterPages
   later-done k p z = rw z
@@ -205,6 +210,11 @@ module _ (store : List ℕ) (n : ℕ) where
   unfolding checkOf
   check-bad t = rw t
 
-  pub check-good : tooLong store n ≡ false → checkFrom (take n store) (pageCount (take n store)) 0 0 ≡ checkOf store n
-  unfolding checkOf
-  check-good t = rw t
+  module _ (t : tooLong store n ≡ false) where
+    pub check-good : checkFrom (take n store) (pageCount (take n store)) 0 0 ≡ checkOf store n
+    unfolding checkOf
+    check-good = rw t
+
+    -- the part that is checked ends at the length
+    pub check-length : (w : ℕ) → w ≡ n → w ≡ length (take w store)
+    check-length w e = sym (length-log store w (omega (arith, fits store n t .inside)))

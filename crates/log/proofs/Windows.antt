@@ -1,11 +1,11 @@
 -- What the two loops of `search` keep: the rounds that are left answer as the whole search. Assumes nothing.
 use Prim.Native.Nat.{ℕ, zero, suc, _+_, _-_, _*_, _≤_, _<_, max}
-use mathlib.Core.Path.{_≡_, refl, sym, _∙_}
+use mathlib.Core.Path.{_≡_, sym, _∙_}
 use mathlib.Core.List.{List}
 use native.Mathlib.Omega.{arith}
 use Rattle.page.specs.Size.{pageSize, pageCount}
 use Rattle.log.specs.Guess.{offsetOf}
-use Rattle.log.specs.Lookup.{Looking, absent, Window, window, Next, stop, again, met, walk, round, search, searchOf, paperLook}
+use Rattle.log.specs.Lookup.{Looking, absent, Window, window, stop, again, walk, round, search, searchOf, paperLook}
 use Rattle.log.specs.Turns.{turned, Says}
 use Rattle.log.specs.declared.searching.Look.{Look}
 use Rattle.log.specs.declared.searching.Turn.{Turn}
@@ -84,10 +84,10 @@ module _ {log : List ℕ} {next id lo hi a b : ℕ} {answer : Look} {g s : ℕ} 
   pub above : (stored : ℕ) (answer′ : Look) → Says log id s (Above stored) → paperLook answer′ ≡ absent (s * pageSize) → Open log next id lo s a stored answer′
   above stored answer′ e = narrowed (h .opened) lo s a stored answer′ (omega arith) (turn (Above stored) e)
 
-  pub passed : s ≡ lo → Says log id s Back → Open log next id (g + 1) hi a b answer
-  passed q e =
+  pub passed : (lo′ : ℕ) → lo′ ≡ g + 1 → s ≡ lo → Says log id s Back → Open log next id lo′ hi a b answer
+  passed lo′ m q e =
       let z : s - lo ≡ 0 = omega arith in
-      narrowed (h .opened) (g + 1) hi a b answer (omega arith) (rw z at (turn Back e)) (h .opened .shown)
+      narrowed (h .opened) lo′ hi a b answer (omega arith) (rw (z, ← m) at (turn Back e)) (h .opened .shown)
 
   pub stepped : lo < s → Says log id s Back → Walking log next id lo hi a b answer g (s - 1)
   stepped l e =

@@ -1,5 +1,5 @@
 -- 01, "Lookup": the guess.
-use Prim.Native.Nat.{ℕ, zero, suc, _+_, _-_, _*_, _/_, _^_, min}
+use Prim.Native.Nat.{ℕ, zero, suc, _-_, _*_, _/_, _^_, min}
 use lib.Dec.{ltb}
 use Rattle.refusal.specs.Pick.{pick}
 

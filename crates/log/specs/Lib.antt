@@ -11,3 +11,4 @@ pub mod Range
 pub mod Step
 pub mod Scan
 pub mod Items
+pub mod World

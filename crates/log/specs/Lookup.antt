@@ -80,6 +80,7 @@ round log id w =
     (walk log id w (guessIn id w) (offsetIn id w))
     (stop (absent (w .hi * pageSize)))
 
+-- a round that stops has the answer, and one that goes on leaves it to the rounds after it
 abbrev pub follow : (Window → Looking) → Next → Looking
 follow f (stop r) = r
 follow f (again w) = f w
@@ -116,6 +117,7 @@ handed log out (found position len) =
 handed log out (absent position) = looked (absent position) out
 handed log out (refused number value) = looked (refused number value) out
 
+-- the search, and then what it found handed over
 unfoldable pub lookupOf : List ℕ → State → ℕ → List ℕ → Looked
 lookupOf store st id out = handed (take (st .length) store) out (findOf store st id)
 
@@ -125,7 +127,7 @@ Right log id (found position len) = Stored log id position len
 Right log id (absent position) = Missing log id position
 Right log id (refused number value) = ⊥
 
--- "with enough buffer": the output holds the data of the entry with that id, if there is one
+-- "with enough buffer": the output is long enough for the data of the entry with that id, if one is stored
 abbrev pub Room : List ℕ → ℕ → List ℕ → Type 0
 Room log id out = (position len : ℕ) → Stored log id position len → len ≤ length out
 

@@ -1,7 +1,7 @@
 -- 01, "Push": what a push of a batch answers and leaves in the store, entry by entry.
 use Prim.Native.Nat.{ℕ, zero, suc, _+_, _-_, _*_, _^_, _≤_, _<_}
 use mathlib.Core.Path.{_≡_}
-use mathlib.Core.Bool.{Bool, true, false, not, _||_}
+use mathlib.Core.Bool.{Bool, false, not, _||_}
 use mathlib.Core.List.{List, [], _++_}
 use lib.Dec.{ltb, leb, eqb}
 use lib.ListN.{length, getD, take, drop}
@@ -107,7 +107,7 @@ bytesFor d = pagesFor (8 + length d) * pageSize
 unfoldable pub wrote : ℕ → List ℕ → Point → Point
 wrote id d p =
     point
-    (movedTo (p .state) (p .state .length + bytesFor d) (p .state .last))
+    (movedTo (p .state) (p .state .length + bytesFor d) id)
     (entryImage (p .image) id d)
     (logAt p ++ overwritten (drop (p .state .length) (p .store)) (entryPages (p .image) id d))
 

@@ -29,12 +29,12 @@ pub struct Pushed {
 }
 
 // A push that a refusal ends.
-fn refused(refusal: Refusal, written: u64, state: State) -> Pushed
+fn refused(refusal: Refusal, written: usize, state: State) -> Pushed
     ensures { λ r. ⌜ paperPushed r ≡ answerOf (refused (numberOf refusal) (valueOf refusal)) written state ⌝ }
 {
     Pushed {
         reason: Reason::Refused(refusal),
-        written,
+        written: written as u64,
         state,
     }
 }
@@ -92,27 +92,27 @@ fn write_entries(store: &mut [u8], state: State, ids: &[u64], ends: &[u64], byte
     let mut at = state.length as usize;
     let mut last = state.last;
     let mut from = 0;
-    let mut j = 0;
-    while j < n {
-        let id = ids[j];
-        let end = ends[j] as usize;
+    let mut written = 0;
+    while written < n {
+        let id = ids[written];
+        let end = ends[written] as usize;
         if id <= last {
-            return refused(Refusal::OutOfOrder, j as u64, state.moved(at as u64, last));
+            return refused(Refusal::OutOfOrder, written, state.moved(at as u64, last));
         }
         // 3 and 4 use up the id
         last = id;
         let payload = Page::ID + (end - from);
         if PAYLOAD_END <= payload {
-            return refused(Refusal::TooLarge, j as u64, state.moved(at as u64, last));
+            return refused(Refusal::TooLarge, written, state.moved(at as u64, last));
         }
         let pages = Page::count(payload);
         if (store.len() - at) / Page::SIZE < pages {
-            return refused(Refusal::NoRoom, j as u64, state.moved(at as u64, last));
+            return refused(Refusal::NoRoom, written, state.moved(at as u64, last));
         }
         page::write_entry(&mut store[at..], &mut image, id, &bytes[from..end]);
         at += pages * Page::SIZE;
         from = end;
-        j += 1;
+        written += 1;
     }
     Pushed {
         reason: Reason::None,

@@ -1,6 +1,7 @@
 -- What starts at a page: read from the part from its start page, and what a whole entry is. Assumes nothing.
 use mathlib.Core.Path.{_≡_, refl, sym, ap, _∙_}
 use mathlib.Core.Bool.{Bool, true, false}
+use mathlib.Core.Logic.{_⊎_, inl, inr}
 use mathlib.Core.List.{List}
 use Prim.Native.Nat.{ℕ, _+_, _-_, _*_, _≤_, _<_}
 use native.Mathlib.Omega.{arith}
@@ -77,3 +78,22 @@ is-whole {log} {s} {id} {len} {after} e = go (ltb n 8) (ltb (pageCount log) (s +
 pub whole-at : (log : List ℕ) (s : ℕ) → 8 ≤ lengthAt log s → afterAt log s ≤ pageCount log → entryAt log s ≡ whole (idAt log s) (lengthAt log s) (afterAt log s)
 unfolding entryAt
 whole-at log s l w = rw (le-ltb (lengthAt log s) 8 l, le-ltb (pageCount log) (afterAt log s) w)
+
+-- ---- a start that is refused
+
+-- 6 or 7, and it names the page
+pub record IsTorn (s number value : ℕ) : Type 0 where
+  pub number-is : (number ≡ 6) ⊎ (number ≡ 7)
+  pub value-is : value ≡ s
+
+pub is-torn : (log : List ℕ) {s number value : ℕ} → entryAt log s ≡ refused number value → IsTorn s number value
+unfolding entryAt
+is-torn log {s} {number} {value} e = go (ltb n 8) (ltb (pageCount log) (s + pagesFor n)) e
+  where
+    n : ℕ
+    n = lengthAt log s
+
+    go : (x y : Bool) → pick x (refused 6 s) (pick y (refused 7 s) (whole (idAt log s) n (s + pagesFor n))) ≡ refused number value → IsTorn s number value
+    go true y e = record { number-is = inl (cc); value-is = cc }
+    go false true e = record { number-is = inr (cc); value-is = cc }
+    go false false e = absurd (let z : _≡_ {A = ℕ} 0 1 = cc in omega arith)

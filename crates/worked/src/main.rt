@@ -1,9 +1,18 @@
 // Runs the cases of document 01 by the real code, and says what each gave.
+mod building;
 mod ids;
+mod lookups;
 mod pages;
+mod pushes;
 mod say;
+mod scans;
+mod tails;
 
 fn main() {
     pages::run();
+    tails::run();
+    lookups::run();
+    scans::run();
+    pushes::run();
     ids::run();
 }

@@ -1,7 +1,7 @@
 -- `check` meets its contract. Assumes nothing.
 use mathlib.Core.Path.{sym, _∙_}
-use Rattle.log.proofs.Bounding.{fits, length-log}
-use Rattle.log.proofs.Turns.{check-bad, check-good}
+use Rattle.log.proofs.Turns.{check-bad, check-good, check-length}
+use native.Mathlib.Omega.{arith}
 use borrow.Author.Needs.{needs}
 use Rattle.log.proofs.checking.check.Statement.{statement}
 use Rattle.log.proofs.checking.check.Tie as tie
@@ -13,7 +13,7 @@ returns : tie.Need-returns
 returns c = check-bad _ _ (sym (c .before .is-too-long .ensures) ∙ c .if1 .taken)
 
 slice-aggregate-check-pages : tie.Need-slice-aggregate-check-pages
-slice-aggregate-check-pages c = sym (length-log _ _ (fits _ _ (sym (c .before .before .is-too-long .ensures) ∙ c .before .if1 .left) .inside))
+slice-aggregate-check-pages c = check-length _ _ (sym (c .before .before .is-too-long .ensures) ∙ c .before .if1 .left) _ (omega arith)
 
 check-pages-requires : tie.Need-check-pages-requires
 check-pages-requires c κs = search needs

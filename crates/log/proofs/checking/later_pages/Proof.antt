@@ -1,11 +1,11 @@
 -- `later_pages` meets its contract: the pages from here on say what those from the first on say. Assumes nothing.
-use mathlib.Core.Path.{_≡_, refl, sym, _∙_}
+use mathlib.Core.Path.{_≡_, sym, _∙_}
 use Prim.Native.Nat.{_-_, _≤_}
 use native.Mathlib.Omega.{arith}
 use borrow.Author.Needs.{needs}
 use Rattle.page.proofs.Marking.{is-start, is-later, is-bad}
 use Rattle.log.specs.Check.{laterPages}
-use Rattle.log.proofs.Turns.{later-done, later-start, later-bad, later-on}
+use Rattle.log.proofs.Turns.{later-from, later-done, later-start, later-bad, later-on}
 use Rattle.log.proofs.checking.later_pages.Statement.{statement}
 use Rattle.log.proofs.checking.later_pages.Tie as tie
 
@@ -16,7 +16,7 @@ abbrev μ-loop : tie.MeasureT-loop
 μ-loop log id from after p₀ p = after - p
 
 loop-holds : tie.Need-loop-holds Inv-loop μ-loop
-loop-holds c = (omega arith, refl)
+loop-holds c = (omega arith, later-from _ _ _ _ _ (omega arith))
 
 read-requires : tie.Need-read-requires Inv-loop μ-loop
 read-requires c κs = omega arith

@@ -1,5 +1,5 @@
 -- `push` meets its contract: the tests of the whole batch in order, then the entries. Assumes nothing.
-use mathlib.Core.Path.{_≡_, sym, ap, _∙_}
+use mathlib.Core.Path.{sym, ap, _∙_}
 use Rattle.log.specs.Push.{Done}
 use Rattle.log.proofs.Bounding.{good}
 use Rattle.log.proofs.Entering.{refuse-state, refuse-batch, refuse-large, entries-in-turn}

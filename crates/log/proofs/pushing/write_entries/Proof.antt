@@ -1,28 +1,20 @@
 -- `write_entries` meets its contract: what is left to do is what was to do. Assumes nothing.
-use Prim.Native.Nat.{ℕ, _+_, _-_, _*_, _≤_}
-use mathlib.Core.Path.{_≡_, refl, sym, ap, _∙_}
+use Prim.Native.Nat.{ℕ, _-_, _*_}
+use mathlib.Core.Path.{refl, ap, _∙_}
 use native.Mathlib.Omega.{arith}
-use borrow.Author.Needs.{needs}
-use lib.ListN.{length, getD, length-drop}
+use lib.ListN.{length-drop}
 use Rattle.page.specs.Size.{pageSize}
 use Rattle.page.proofs.Parting.{rest-of}
-use Rattle.log.specs.Push.{Done, answerOf}
-use Rattle.log.proofs.Filling.{Head, start, above, inside, taken, order, large, no-room, again, finish}
+use Rattle.log.specs.Push.{Done}
+use Rattle.log.proofs.Filling.{Head, told, start, above, inside, taken, order, large, no-room, again, finish}
 use Rattle.log.proofs.pushing.write_entries.Statement.{statement}
 use Rattle.log.proofs.pushing.write_entries.Tie as tie
-use Rattle.log.proofs.pushing.write_entries.Reads as reads
-use Rattle.log.proofs.pushing.write_entries.Lts as lts
-use Rattle.log.proofs.pushing.refused.Reads as refused-reads
-use Rattle.log.proofs.state.State.moved.Reads as moved-reads
-use Rattle.page.proofs.Page.blank.Reads as blank-reads
-use Rattle.page.proofs.Page.count.Reads as count-reads
-use Rattle.page.proofs.write_entry.Reads as write-entry-reads
 
 abbrev Inv-loop : tie.InvT-loop
-Inv-loop store₀ state ids ends bytes n image₀ at₀ last₀ from₀ j₀ store image at last from j = Head store₀ state ids ends bytes store image at last from j
+Inv-loop store₀ state ids ends bytes n image₀ at₀ last₀ from₀ written₀ store image at last from written = Head store₀ state ids ends bytes store image at last from written
 
 abbrev μ-loop : tie.MeasureT-loop
-μ-loop store₀ state ids ends bytes n image₀ at₀ last₀ from₀ j₀ store image at last from j = n - j
+μ-loop store₀ state ids ends bytes n image₀ at₀ last₀ from₀ written₀ store image at last from written = n - written
 
 blank-requires : tie.Need-blank-requires Inv-loop μ-loop
 blank-requires c κs = omega arith
@@ -54,7 +46,7 @@ same-length c = omega arith
 returns : tie.Need-returns Inv-loop μ-loop
 returns c =
     let e = order (c .before .before .before .before .before .before .loop .inv) (omega arith) (omega arith) in
-    (c .refused .ensures ∙ ap (answerOf _ _) (c .before .moved .ensures) ∙ ap (λ (r : Done). r .answer) e, ap (λ (r : Done). r .store) e)
+    (c .refused .ensures ∙ told _ _ _ _ _ _ (omega arith) (c .before .moved .ensures) (ap (λ (r : Done). r .answer) e), ap (λ (r : Done). r .store) e)
 
 sub-payload : tie.Need-sub-payload Inv-loop μ-loop
 sub-payload c = omega (arith, above (c .before .before .before .before .loop .inv) (omega arith))
@@ -74,7 +66,7 @@ same-length-2 c = omega arith
 returns-2 : tie.Need-returns-2 Inv-loop μ-loop
 returns-2 c =
     let e = large (c .before .before .before .before .before .before .before .loop .inv) (omega arith) (omega arith) (omega arith) in
-    (c .refused2 .ensures ∙ ap (answerOf _ _) (c .before .moved2 .ensures) ∙ ap (λ (r : Done). r .answer) e, ap (λ (r : Done). r .store) e)
+    (c .refused2 .ensures ∙ told _ _ _ _ _ _ (omega arith) (c .before .moved2 .ensures) (ap (λ (r : Done). r .answer) e), ap (λ (r : Done). r .store) e)
 
 count-requires : tie.Need-count-requires Inv-loop μ-loop
 count-requires c κs = omega arith
@@ -95,7 +87,7 @@ returns-3 : tie.Need-returns-3 Inv-loop μ-loop
 returns-3 c =
     let k = ap (λ (n : ℕ). n * pageSize) (c .before .before .before .count .ensures) in
     let e = no-room (c .before .before .before .before .before .before .before .before .before .loop .inv) (omega arith) (omega arith) (omega arith) _ k (omega arith) in
-    (c .refused3 .ensures ∙ ap (answerOf _ _) (c .before .moved3 .ensures) ∙ ap (λ (r : Done). r .answer) e, ap (λ (r : Done). r .store) e)
+    (c .refused3 .ensures ∙ told _ _ _ _ _ _ (omega arith) (c .before .moved3 .ensures) (ap (λ (r : Done). r .answer) e), ap (λ (r : Done). r .store) e)
 
 sub-write-entry : tie.Need-sub-write-entry Inv-loop μ-loop
 sub-write-entry c = omega arith
@@ -127,8 +119,8 @@ mul-at c = omega arith
 add-at : tie.Need-add-at Inv-loop μ-loop
 add-at c = omega arith
 
-add-j : tie.Need-add-j Inv-loop μ-loop
-add-j c = omega arith
+add-written : tie.Need-add-written Inv-loop μ-loop
+add-written c = omega arith
 
 loop-less : tie.Need-loop-less Inv-loop μ-loop
 loop-less c = omega arith
@@ -136,7 +128,7 @@ loop-less c = omega arith
 loop-again : tie.Need-loop-again Inv-loop μ-loop
 loop-again c =
     let k = ap (λ (n : ℕ). n * pageSize) (c .before .before .before .before .before .before .before .before .count .ensures) in
-    again (c .before .before .before .before .before .before .before .before .before .before .before .before .before .before .loop .inv) (omega arith) (omega arith) (omega arith) _ k (omega arith) _ _ _ (c .before .before .before .write-entry .ensures .0) (c .before .before .before .write-entry .ensures .1) refl (omega arith) (omega arith)
+    again (c .before .before .before .before .before .before .before .before .before .before .before .before .before .before .loop .inv) (omega arith) (omega arith) (omega arith) _ k (omega arith) _ _ _ (c .before .before .before .write-entry .ensures .0) (c .before .before .before .write-entry .ensures .1) refl (omega arith) (omega arith) _ _ (omega arith) (omega arith)
 
 moved-requires-4 : tie.Need-moved-requires-4 Inv-loop μ-loop
 moved-requires-4 c κs = omega arith
@@ -147,7 +139,7 @@ same-length-4 c = omega arith
 returns-4 : tie.Need-returns-4 Inv-loop μ-loop
 returns-4 c =
     let e = finish (c .before .before .loop .inv) _ refl (omega arith) in
-    (ap (answerOf _ _) (c .moved4 .ensures) ∙ ap (λ (r : Done). r .answer) e, ap (λ (r : Done). r .store) e)
+    (told _ _ _ _ _ _ (omega arith) (c .moved4 .ensures) (ap (λ (r : Done). r .answer) e), ap (λ (r : Done). r .store) e)
 
 pub write-entries-spec : {M : Type 1} → statement M
 write-entries-spec =
@@ -187,7 +179,7 @@ write-entries-spec =
     write-entry-requires
     mul-at
     add-at
-    add-j
+    add-written
     loop-less
     loop-again
     moved-requires-4

@@ -1,7 +1,6 @@
 -- `recover` meets its contract. Assumes nothing.
-use mathlib.Core.Path.{sym, _∙_}
+use mathlib.Core.Path.{refl, sym, _∙_}
 use native.Mathlib.Omega.{arith}
-use Rattle.log.proofs.Bounding.{fits}
 use Rattle.log.proofs.Recovering.{length-cut, cut-pages, recover-bad, recover-fresh, recover-tail}
 use borrow.Author.Needs.{needs}
 use Rattle.log.proofs.recovery.recover.Statement.{statement}
@@ -20,16 +19,16 @@ fresh-requires : tie.Need-fresh-requires
 fresh-requires c κs = search needs
 
 returns-2 : tie.Need-returns-2
-returns-2 c = recover-fresh _ _ (sym (c .before .before .before .is-too-long .ensures) ∙ c .before .before .if1 .left) (omega arith) _ (c .fresh .ensures)
+returns-2 c = recover-fresh _ _ (sym (c .before .before .before .is-too-long .ensures) ∙ c .before .before .if1 .left) _ refl (omega arith) _ (c .fresh .ensures)
 
 slice-aggregate-walk-back : tie.Need-slice-aggregate-walk-back
-slice-aggregate-walk-back c = sym (length-cut _ _ (fits _ _ (sym (c .before .before .before .is-too-long .ensures) ∙ c .before .before .if1 .left) .inside))
+slice-aggregate-walk-back c = sym (length-cut _ _ (sym (c .before .before .before .is-too-long .ensures) ∙ c .before .before .if1 .left) _ (omega arith))
 
 walk-back-requires : tie.Need-walk-back-requires
-walk-back-requires c κs = cut-pages _ _ (sym (c .before .before .before .is-too-long .ensures) ∙ c .before .before .if1 .left) (λ e. omega arith)
+walk-back-requires c κs = cut-pages _ _ (sym (c .before .before .before .is-too-long .ensures) ∙ c .before .before .if1 .left) _ (omega arith) (c .before .if2 .left)
 
 returns-3 : tie.Need-returns-3
-returns-3 c = c .walk-back .ensures ∙ recover-tail _ _ (sym (c .before .before .before .before .is-too-long .ensures) ∙ c .before .before .before .if1 .left) (λ e. omega arith)
+returns-3 c = c .walk-back .ensures ∙ recover-tail _ _ (sym (c .before .before .before .before .is-too-long .ensures) ∙ c .before .before .before .if1 .left) _ (omega arith) (c .before .before .if2 .left)
 
 pub recover-spec : {M : Type 1} → statement M
 recover-spec =

@@ -32,7 +32,7 @@ at-last-requires : tie.Need-at-last-requires Inv-loop μ-loop
 at-last-requires c κs = omega arith
 
 returns : tie.Need-returns Inv-loop μ-loop
-returns c = c .at-last .ensures ∙ sym (back-start _ _ _ (is-start _ (sym (c .before .before .before .read .ensures) ∙ c .before .enum-told .given .1))) ∙ c .before .before .before .before .loop .inv .1
+returns c = c .at-last .ensures ∙ sym (back-start _ _ _ _ (omega arith) (is-start _ (sym (c .before .before .before .read .ensures) ∙ c .before .enum-told .given .1))) ∙ c .before .before .before .before .loop .inv .1
 
 enum-told-2 : tie.Need-enum-told-2 Inv-loop μ-loop
 enum-told-2 c = search needs

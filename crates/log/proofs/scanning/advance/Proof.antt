@@ -26,7 +26,7 @@ is-met : (c : tie.After-reached2) →
     met (c .reached2 .given .0 .0) (c .reached2 .given .0 .1 .0) (c .reached2 .given .0 .1 .1 .0) (c .reached2 .given .0 .1 .1 .1 .0) ≡ forwardFrom (args .log .now) (args .range) (args .from)
 is-met c = sym (ap paperReached (c .reached2 .given .1)) ∙ c .before .before .forward .ensures
 
-held : (c : tie.After-reached2) → Lies (c .before .before .before .before .before .args .log .now) (c .reached2 .given .0 .0) (c .reached2 .given .0 .1 .1 .0) (c .reached2 .given .0 .1 .1 .1 .0)
+held : (c : tie.After-reached2) → Lies (c .before .before .before .before .before .args .log .now) (c .before .before .before .before .before .args .range) (c .reached2 .given .0 .0) (c .reached2 .given .0 .1 .0) (c .reached2 .given .0 .1 .1 .0) (c .reached2 .given .0 .1 .1 .1 .0)
 held c = lies _ _ _ _ _ _ _ (sym (is-met c))
 
 returns : tie.Need-returns
@@ -36,7 +36,9 @@ copy-data-requires : tie.Need-copy-data-requires
 copy-data-requires c κs = (omega arith, held (c .before .before .before) .room)
 
 mul-t14 : tie.Need-mul-t14
-mul-t14 c = omega (arith, held (c .before .before .before .before .before .before) .ends)
+mul-t14 c =
+    let lies-there = held (c .before .before .before .before .before .before) in
+    omega (arith, lies-there .room, lies-there .ends)
 
 returns-2 : tie.Need-returns-2
 returns-2 c = sym (advance-fault _ _ _ _ _ _ (sym (ap paperReached (c .before .reached .given .1)) ∙ c .before .before .before .forward .ensures))

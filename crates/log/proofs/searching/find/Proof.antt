@@ -1,13 +1,12 @@
 -- `find` meets its contract: each return is one law of `Finding`. Assumes nothing.
-use Prim.Native.Nat.{ℕ, _≤_, _^_}
+use Prim.Native.Nat.{ℕ}
 use mathlib.Core.Path.{_≡_, sym, _∙_}
 use mathlib.Core.Bool.{false}
 use mathlib.Core.List.{List}
 use native.Mathlib.Omega.{arith}
 use borrow.Author.Needs.{needs}
-use lib.ListN.{length, take}
+use lib.ListN.{length}
 use Rattle.log.specs.Bounds.{badState}
-use Rattle.log.specs.declared.state.State.{State}
 use Rattle.log.proofs.Bounding.{Good, good, length-log}
 use Rattle.log.proofs.Finding.{find-bad, find-in, find-zero, find-late}
 use Rattle.log.proofs.searching.find.Statement.{statement}
@@ -33,10 +32,12 @@ returns : tie.Need-returns
 returns c = sym (find-bad _ _ _ (sym (c .before .is-bad-state .ensures) ∙ c .if1 .taken))
 
 returns-2 : tie.Need-returns-2
-returns-2 c = sym (find-zero _ _ _ (not-bad (c .before)) (c .if2 .taken))
+returns-2 c = sym (find-zero _ _ _ (not-bad (c .before)) (omega arith))
 
 returns-3 : tie.Need-returns-3
-returns-3 c = sym (find-late _ _ _ (not-bad (c .before .before .before)) (c .before .before .if2 .left) (c .if3 .taken))
+returns-3 c =
+    let some = c .before .before .if2 .left in
+    sym (find-late _ _ _ (not-bad (c .before .before .before)) (λ e. omega arith) (omega arith))
 
 slice-aggregate-search : tie.Need-slice-aggregate-search
 slice-aggregate-search c =
@@ -47,7 +48,7 @@ search-requires : tie.Need-search-requires
 search-requires c κs =
     let past = c .before .before .before .before in
     let some = c .before .before .before .if2 .left in
-    (omega arith, c .before .if3 .left, omega (arith, length-log (store-at past) (length-at past) (bounded past .inside), bounded past .small, bounded past .inside))
+    (omega arith, omega arith, omega (arith, length-log (store-at past) (length-at past) (bounded past .inside), bounded past .small, bounded past .inside))
 
 returns-4 : tie.Need-returns-4
 returns-4 c = c .search .ensures ∙ sym (find-in _ _ _ (not-bad (c .before .before .before .before .before)))

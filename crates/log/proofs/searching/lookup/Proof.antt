@@ -1,8 +1,8 @@
 -- `lookup` meets its contract: each return is one law of `Handing`. Assumes nothing.
-use Prim.Native.Nat.{ℕ, _≤_}
-use mathlib.Core.Path.{_≡_, refl, sym, ap, _∙_}
+use Prim.Native.Nat.{ℕ}
+use mathlib.Core.Path.{_≡_, sym, ap, _∙_}
 use mathlib.Core.Logic.{_⊎_, inl, inr}
-use mathlib.Core.List.{List, _++_}
+use mathlib.Core.List.{List}
 use native.Mathlib.Omega.{arith}
 use borrow.Author.Needs.{needs}
 use denote.Enum.Declared.{tagOf}
@@ -14,8 +14,8 @@ use Rattle.log.specs.declared.searching.Look.{Look}
 use Rattle.log.specs.declared.searching.Look.the-variants.{Found, Absent, Refused}
 use Rattle.log.proofs.searching.Look as look
 use Rattle.log.proofs.Bounding.{good, length-log}
-use Rattle.log.proofs.Placing.{found-good}
-use Rattle.log.proofs.Handing.{data-within, too-small, handed-over, nothing-absent, nothing-refused}
+use Rattle.log.proofs.Positions.{found-good}
+use Rattle.log.proofs.Handing.{data-within, too-small, handed-from, nothing-absent, nothing-refused}
 use Rattle.log.proofs.searching.lookup.Statement.{statement}
 use Rattle.log.proofs.searching.lookup.Tie as tie
 
@@ -54,7 +54,7 @@ slice-aggregate-copy-data : tie.Need-slice-aggregate-copy-data
 slice-aggregate-copy-data c = sym (log-length (c .before .before .before))
 
 copy-data-requires : tie.Need-copy-data-requires
-copy-data-requires c κs = (omega arith, data-within _ _ _ (start-of (c .before .before .before .before) .args .out .now) _ _ (is-found (c .before .before .before .before)))
+copy-data-requires c κs = (omega arith, data-within _ _ _ (start-of (c .before .before .before .before) .args .out .now) _ _ (is-found (c .before .before .before .before)) _ (omega arith))
 
 same-length : tie.Need-same-length
 same-length c = search needs
@@ -63,7 +63,7 @@ returns-2 : tie.Need-returns-2
 returns-2 c =
     let at-found = c .before .before .before .before .before .before .before in
     ap (looked (found (at-found .look .given .0 .0) (at-found .look .given .0 .1 .0))) (c .before .before .copy-data .ensures)
-    ∙ sym (handed-over _ _ _ _ _ _ (is-found at-found) (omega arith))
+    ∙ sym (handed-from _ _ _ _ _ _ (is-found at-found) _ (omega arith) (omega arith))
 
 returns-3 : tie.Need-returns-3
 returns-3 c = nothing _ _ _ _ (c .before .find .result) (c .match .keys2) (c .before .find .ensures)

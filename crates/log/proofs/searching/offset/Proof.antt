@@ -1,5 +1,5 @@
 -- `offset` meets its contract: leading zeros give the least shift (`Shifting`). Assumes nothing.
-use Prim.Native.Nat.{ℕ, _≤_, _<_, _*_, _/_, _^_}
+use Prim.Native.Nat.{ℕ, _≤_, _*_, _/_, _^_}
 use mathlib.Core.Path.{sym, subst}
 use mathlib.Core.Logic.{⊎-elim}
 use native.Mathlib.Omega.{arith}

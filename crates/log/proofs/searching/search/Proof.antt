@@ -1,7 +1,6 @@
 -- `search` meets its contract: each way through the loops is one law of `Windows`. Assumes nothing.
-use Prim.Native.Nat.{ℕ, _+_, _-_, _≤_, _<_}
+use Prim.Native.Nat.{_-_, _<_}
 use mathlib.Core.Path.{_≡_, refl, subst}
-use mathlib.Core.List.{List}
 use native.Mathlib.Omega.{arith}
 use borrow.Author.Needs.{needs}
 use Rattle.page.specs.Size.{pageCount}
@@ -71,7 +70,7 @@ add-g : tie.Need-add-g Inv-back μ-back Inv-window μ-window
 add-g c = omega (arith, guess-below c)
 
 back-holds : tie.Need-back-holds Inv-back μ-back Inv-window μ-window
-back-holds c = (refl, refl, windows.guessed _ (c .before .before .window .inv) (c .before .window-test .taken) (c .offset .ensures) (omega (arith, guess-below c)))
+back-holds c = (refl, refl, windows.guessed _ (c .before .before .window .inv) (omega arith) (c .offset .ensures) (omega (arith, guess-below c)))
 
 turn-at-requires : tie.Need-turn-at-requires Inv-back μ-back Inv-window μ-window
 turn-at-requires c κs = omega arith
@@ -127,7 +126,7 @@ window-less-4 c = omega arith
 window-again-4 : tie.Need-window-again-4 Inv-back μ-back Inv-window μ-window
 window-again-4 c =
     let at = c .before .before .before in
-    windows.passed (at .before .back .inv .2) (omega arith) (subst (says at) (c .before .enum-told .given .1) (at .turn-at .ensures))
+    windows.passed (at .before .back .inv .2) _ (omega arith) (omega arith) (subst (says at) (c .before .enum-told .given .1) (at .turn-at .ensures))
 
 sub-s : tie.Need-sub-s Inv-back μ-back Inv-window μ-window
 sub-s c = omega arith
@@ -142,7 +141,7 @@ back-again c =
     (at .before .back .inv .0, at .before .back .inv .1, windows.stepped (at .before .back .inv .2) (omega arith) (subst (says at) (c .before .enum-told .given .1) (at .turn-at .ensures)))
 
 returns : tie.Need-returns Inv-back μ-back Inv-window μ-window
-returns c = windows.emptied (c .before .window .inv) (c .window-test .left)
+returns c = windows.emptied (c .before .window .inv) (omega arith)
 
 returns-2 : tie.Need-returns-2 Inv-back μ-back Inv-window μ-window
 returns-2 c =

@@ -27,7 +27,7 @@ stay at i e h = omega arith
 skipped : (c : tie.Joined1 Inv-loop μ-loop) → c .if1 .at ≡ placeOf (c .before .before .loop .i) - 12
 skipped c =
     let linear = place-linear (c .before .before .loop .i) in
-    ⊎-elim (λ w. omega arith) (λ w. w .1 ∙ stay _ _ (c .before .before .loop .inv .1) (w .0 .left) ∙ omega arith) (c .if1 .came)
+    ⊎-elim (λ w. omega arith) (λ w. w .1 ∙ stay _ _ (c .before .before .loop .inv .1) (λ e. w .0 .left (omega arith)) ∙ omega arith) (c .if1 .came)
 
 loop-holds : tie.Need-loop-holds Inv-loop μ-loop
 unfolding dataFrom

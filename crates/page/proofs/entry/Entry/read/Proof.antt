@@ -24,7 +24,7 @@ read-requires : tie.Need-read-requires
 read-requires c κs = search needs
 
 returns : tie.Need-returns
-returns c = short _ _ _ (c .before .read .ensures .0) (c .if1 .taken)
+returns c = short _ _ _ (c .before .read .ensures .0) (omega arith)
 
 count-requires : tie.Need-count-requires
 count-requires c κs = search needs
@@ -35,12 +35,12 @@ add-after c = omega (arith, pages-linear (c .before .before .read .result .lengt
 returns-2 : tie.Need-returns-2
 returns-2 c =
     let at-read = c .before .before .before in
-    cut _ _ _ (at-read .read .ensures .0) (c .before .before .if1 .left) _ (ap (λ (k : ℕ). at-read .before .before .before .args .s + k) (c .before .count .ensures)) (c .if2 .taken)
+    cut _ _ _ (at-read .read .ensures .0) (omega arith) _ (ap (λ (k : ℕ). at-read .before .before .before .args .s + k) (c .before .count .ensures)) (omega arith)
 
 returns-3 : tie.Need-returns-3
 returns-3 c =
     let at-read = c .before .before .before in
-    reaches _ _ _ (at-read .read .ensures .0) (c .before .before .if1 .left) _ (ap (λ (k : ℕ). at-read .before .before .before .args .s + k) (c .before .count .ensures)) (c .if2 .left) _ (at-read .read .ensures .1)
+    reaches _ _ _ (at-read .read .ensures .0) (omega arith) _ (ap (λ (k : ℕ). at-read .before .before .before .args .s + k) (c .before .count .ensures)) (omega arith) _ (at-read .read .ensures .1)
 
 pub read-spec : {M : Type 1} → statement M
 read-spec =

@@ -1,0 +1,128 @@
+-- 01, "Logs and batches worked through": the cases marked M, one list under one statement. Assumes nothing.
+use mathlib.Core.Path.{_≡_, refl}
+use mathlib.Core.Bool.{Bool, true, false}
+use mathlib.Core.List.{List, [], _∷_, _++_}
+use Prim.Native.Nat.{ℕ, _+_}
+use lib.ListN.{length, replicate, take, drop, getD}
+use Rattle.page.specs.Tab.{tab}
+use Rattle.page.specs.Size.{pagesFor, pageAt}
+use Rattle.page.specs.Bytes.{numberAt, bytesOf}
+use Rattle.page.specs.Mark.{markAt}
+use Rattle.page.specs.Entry.{lengthAt, idAt, entryAt}
+use Rattle.page.specs.Data.{placeOf, dataOf, dataAt}
+use Rattle.page.specs.Write.{blank, firstPage, laterPage, laterPages, laterImage, entryPages, entryImage}
+use Rattle.log.specs.Bounds.{tooLong, badState}
+use Rattle.log.specs.State.{fresh, stateOf}
+use Rattle.log.specs.Guess.{leastFrom, leastShift, offsetOf}
+use Rattle.log.specs.Lookup.{Looking, found, absent, refused, allPages, guessIn, compared, met, walk, round, search, searchOf, findOf}
+use Rattle.log.specs.Recover.{Recovering, recovered, refused as unrecovered, atLast, walkBack, recoverLog, recoverOf}
+use Rattle.log.specs.Push.{Why, none, refused as unpushed, Done, entryData, some, badEnd, badBatch, largeData, someLarge, wrote, placed, turn, entriesFrom, pushOf}
+use Rattle.log.specs.declared.state.State.{State}
+use Rattle.sequence.specs.Window.{only, shifted}
+use Rattle.sequence.specs.Sequence.{newOf, completeOf, rounds, noteOf}
+use Rattle.sequence.specs.History.{History, begun, answered, step, run}
+
+-- ---- answers as numbers
+
+ofState : State → List ℕ
+ofState st = st .length ∷ st .last ∷ st .next ∷ []
+
+-- 1, position and data length; 0 and position; or 2, number and value
+ofLook : Looking → List ℕ
+ofLook (found position len) = 1 ∷ position ∷ len ∷ []
+ofLook (absent position) = 0 ∷ position ∷ []
+ofLook (refused number value) = 2 ∷ number ∷ value ∷ []
+
+-- the reason's number, 0 for none; the count of entries written; the state
+ofWhy : Why → ℕ
+ofWhy none = 0
+ofWhy (unpushed number value) = number
+
+ofPush : Done → List ℕ
+ofPush r = ofWhy (r .answer .reason) ∷ r .answer .written ∷ ofState (r .answer .state)
+
+-- the excess and the state
+ofRecovery : Recovering → List ℕ
+ofRecovery (recovered st excess) = excess ∷ ofState st
+ofRecovery (unrecovered number value) = number ∷ value ∷ []
+
+-- complete: 1 for yes, 0 for no
+ofAnswer : Bool → ℕ
+ofAnswer true = 1
+ofAnswer false = 0
+
+-- ---- what the definitions compute
+
+abbrev hello : List ℕ
+hello = 0x68 ∷ 0x65 ∷ 0x6c ∷ 0x6c ∷ 0x6f ∷ []
+
+-- the push of (1, "hello") then (2, none) from fresh, in a store of two pages
+abbrev helloPush : Done
+helloPush = pushOf (replicate 2048 0) fresh (1 ∷ 2 ∷ []) (5 ∷ 5 ∷ []) hello
+
+-- ten one-page entries 1 to 10
+abbrev tenPush : Done
+tenPush = pushOf (replicate 10240 0) fresh (1 ∷ 2 ∷ 3 ∷ 4 ∷ 5 ∷ 6 ∷ 7 ∷ 8 ∷ 9 ∷ 10 ∷ []) (replicate 10 0) []
+
+-- id 1 with payload 3,000, then ids 2, 3, 4
+abbrev sixPush : Done
+sixPush = pushOf (replicate 6144 0) fresh (1 ∷ 2 ∷ 3 ∷ 4 ∷ []) (replicate 4 2992) (replicate 2992 0x78)
+
+-- page 0 holding id 9, and six bytes more
+abbrev ninePage : List ℕ
+ninePage = entryPages blank 9 hello ++ replicate 6 0
+
+-- complete after each of the notes 3, 1, 2, 4 from 1
+abbrev notes : List ℕ → Bool
+notes ids = completeOf (run (begun 1 (replicate 64 0)) ids .sequence)
+
+-- each case as the definitions have it
+pub computed : List (List ℕ)
+computed =
+    (pagesFor 8 ∷ pagesFor 1020 ∷ pagesFor 1021 ∷ pagesFor 2043 ∷ pagesFor 2044 ∷ pagesFor 3000 ∷ pagesFor 16777215 ∷ [])
+    ∷ ofPush helloPush
+    ∷ take 1024 (helloPush .store)
+    ∷ drop 1024 (helloPush .store)
+    ∷ ofLook (findOf (helloPush .store) (helloPush .answer .state) 1)
+    ∷ ofPush tenPush
+    ∷ (guessIn 5 (allPages (tenPush .store) 11) ∷ [])
+    ∷ ofPush sixPush
+    ∷ ofLook (findOf (sixPush .store) (stateOf 6144 4 8) 2)
+    ∷ ofPush (pushOf (replicate 2048 0) (stateOf 0 5 1) (6 ∷ 6 ∷ []) (0 ∷ 0 ∷ []) [])
+    ∷ ofRecovery (recoverOf ninePage 1030)
+    ∷ (ofAnswer (notes (3 ∷ [])) ∷ ofAnswer (notes (3 ∷ 1 ∷ [])) ∷ ofAnswer (notes (3 ∷ 1 ∷ 2 ∷ [])) ∷ ofAnswer (notes (3 ∷ 1 ∷ 2 ∷ 4 ∷ [])) ∷ [])
+    ∷ []
+
+-- each case as 01 has it
+pub asWritten : List (List ℕ)
+asWritten =
+    -- "Pages for payloads 8, 1,020, 1,021, 2,043, 2,044, 3,000, 16,777,215: 1, 1, 2, 2, 3, 3, 16,401"
+    (1 ∷ 1 ∷ 2 ∷ 2 ∷ 3 ∷ 3 ∷ 16401 ∷ [])
+    -- "Push of (1, "hello") then (2, none) from fresh": no refusal, two written, "State 2,048, 2, 1"
+    ∷ (0 ∷ 2 ∷ 2048 ∷ 2 ∷ 1 ∷ [])
+    -- "Page 0: 01 00 00 0D, seven 00, 01, 68 65 6C 6C 6F, 1,007 zeros"
+    ∷ ((1 ∷ 0 ∷ 0 ∷ 0x0d ∷ 0 ∷ 0 ∷ 0 ∷ 0 ∷ 0 ∷ 0 ∷ 0 ∷ 1 ∷ 0x68 ∷ 0x65 ∷ 0x6c ∷ 0x6c ∷ 0x6f ∷ []) ++ replicate 1007 0)
+    -- "Page 1: 01 00 00 08, seven 00, 02, then the stale 68 65 6C 6C 6F, 1,007 zeros"
+    ∷ ((1 ∷ 0 ∷ 0 ∷ 0x08 ∷ 0 ∷ 0 ∷ 0 ∷ 0 ∷ 0 ∷ 0 ∷ 0 ∷ 2 ∷ 0x68 ∷ 0x65 ∷ 0x6c ∷ 0x6c ∷ 0x6f ∷ []) ++ replicate 1007 0)
+    -- "A lookup of 1 is then absent at 2,048, since next is 1"
+    ∷ (0 ∷ 2048 ∷ [])
+    -- "Ten one-page entries 1 to 10": ten written
+    ∷ (0 ∷ 10 ∷ 10240 ∷ 10 ∷ 1 ∷ [])
+    -- "next 11: the first guess for 5 is page 4"
+    ∷ (4 ∷ [])
+    -- "The log of six pages above": id 1 with payload 3,000, ids 2, 3, 4
+    ∷ (0 ∷ 4 ∷ 6144 ∷ 4 ∷ 1 ∷ [])
+    -- "2 is found at 3,072", next being 8
+    ∷ (1 ∷ 3072 ∷ 0 ∷ [])
+    -- "Last written 5, ids 6, 6: one written, refusal 2, last written 6"
+    ∷ (2 ∷ 1 ∷ 1024 ∷ 6 ∷ 1 ∷ [])
+    -- "Length 1,030, page 0 holding id 9: excess 6, state 1,024, 9, 10"
+    ∷ (6 ∷ 1024 ∷ 9 ∷ 10 ∷ [])
+    -- "Sequence from 1: note 3, 1, 2, 4 gives complete no, no, yes, yes"
+    ∷ (0 ∷ 0 ∷ 1 ∷ 1 ∷ [])
+    ∷ []
+
+-- THE M CASES: what the definitions compute is what 01 says
+pub worked : computed ≡ asWritten
+unfolding computed asWritten ofState ofLook ofWhy ofPush ofRecovery ofAnswer pagesFor pageAt numberAt bytesOf markAt lengthAt idAt entryAt blank firstPage laterPage laterPages laterImage entryPages entryImage tooLong badState leastFrom leastShift offsetOf compared met walk round search searchOf findOf atLast walkBack recoverLog recoverOf entryData some badEnd badBatch largeData someLarge wrote placed turn entriesFrom pushOf only shifted rounds noteOf answered run
+worked = refl
