@@ -13,7 +13,7 @@ use Rattle.page.proofs.Counting.{pages-some}
 use Rattle.page.proofs.Growing.{mark-kept, length-kept, id-kept, data-kept, whole-added, count-added, mark-added, later-mark-added, payload-added, id-added, data-added}
 use Rattle.log.specs.Sound.{Start, Sound, Last}
 use Rattle.log.specs.Push.{Holds}
-use Rattle.log.proofs.Cases.{side, order}
+use Rattle.refusal.proofs.Cases.{side, order}
 
 -- ---- any bytes put after a log
 

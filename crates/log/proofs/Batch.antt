@@ -17,7 +17,7 @@ use Rattle.log.specs.Bounds.{badState}
 use Rattle.log.specs.Sound.{Start}
 use Rattle.log.specs.Push.{Why, none, refused, entryData, badBatch, someLarge, Point, logAt, begin, used, bytesFor, wrote, Done, done, entriesFrom, pushOf, pagesFrom, Holds, Ready, Grown, Right}
 use Rattle.log.specs.declared.state.State.{State}
-use Rattle.log.proofs.Cases.{side}
+use Rattle.refusal.proofs.Cases.{side}
 use Rattle.log.proofs.Bounding.{good}
 use Rattle.log.proofs.Appending.{holds-kept, sound-append, most-append, holds-append}
 use Rattle.log.proofs.Entering.{from-order, from-large, from-full, from-write}

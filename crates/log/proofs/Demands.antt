@@ -18,9 +18,9 @@ use Rattle.log.proofs.Bounding.{Fits, not-bad, length-log}
 use Rattle.log.proofs.LookupRight.{find-right, find-stored, right-unique}
 use Rattle.log.proofs.Appending.{holds-kept}
 use Rattle.log.proofs.Batch.{push-right}
-use Rattle.log.proofs.Resuming.{Resumed, from-empty, from-last, recovered-fits, recovered-last}
+use Rattle.log.proofs.Resuming.{last-greatest, Resumed, from-empty, from-last, recovered-fits, recovered-last}
 use Rattle.log.proofs.Lasting.{right-grows, handedData, data-grows, right-exact, right-answers}
-use Rattle.log.proofs.Moving.{rising-le, Grows, Lives, Moved, stays-settled, moved, moved-run}
+use Rattle.log.proofs.Moving.{Grows, Lives, Moved, stays-settled, moved, moved-run}
 
 -- ---- where a history begins
 
@@ -52,7 +52,7 @@ module _ (w : World) (b : Begun w) where
       go (from-empty z e) p h = absurd (omega (arith, h .inside))
       go (from-last q l e) p h =
           let m = ap (λ (st : State). st .last) e in
-          omega (arith, m, rising-le (take (b .size) (w .store)) (b .sound) p q h (l .start) (l .none p h))
+          omega (arith, m, last-greatest (take (b .size) (w .store)) (b .sound) q p l h)
 
   -- every stored id is below next there
   begun-next : (p : ℕ) → Start (logOf w) p → idAt (logOf w) p < w .state .next
@@ -62,7 +62,7 @@ module _ (w : World) (b : Begun w) where
       go (from-empty z e) p h = absurd (omega (arith, h .inside))
       go (from-last q l e) p h =
           let m = ap (λ (st : State). st .next) e in
-          omega (arith, m, rising-le (take (b .size) (w .store)) (b .sound) p q h (l .start) (l .none p h))
+          omega (arith, m, last-greatest (take (b .size) (w .store)) (b .sound) q p l h)
 
   -- so every id from 1 to the last one stored is settled where a history begins: the demand is about something
   pub begun-settled : (p id : ℕ) → Last (logOf w) p → 1 ≤ id → id ≤ idAt (logOf w) p → Settled w id

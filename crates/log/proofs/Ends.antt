@@ -10,7 +10,7 @@ use borrow.Author.Tests.{ltb-false, eqb-true, not-false, lt-ltb, le-ltb, eq-eqb,
 use lib.Dec.{ltb, eqb}
 use lib.ListN.{length, getD, length-take, length-drop}
 use Rattle.log.specs.Push.{before, entryData, some, badEnd, badBatch, largeData, someLarge}
-use Rattle.log.proofs.Cases.{side}
+use Rattle.refusal.proofs.Cases.{side}
 use Rattle.log.proofs.Bounding.{neither}
 
 -- ---- some number below n passes a test

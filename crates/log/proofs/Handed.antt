@@ -20,7 +20,7 @@ use Rattle.log.specs.Step.{Reaching, met, none, faulty, pageOf, on, stop
 use Rattle.log.specs.Items.{itemAt, Hands, ended, handed, Enough}
 use Rattle.log.specs.declared.state.State.{State}
 use Rattle.log.specs.declared.scanning.Range.{Range}
-use Rattle.log.proofs.Cases.{side}
+use Rattle.refusal.proofs.Cases.{side}
 use Rattle.log.proofs.Bounding.{good, length-log, not-bad-cursor}
 use Rattle.log.proofs.Onward.{start-in, start-out, page-start, page-later, forward-end, forward-stop, forward-on}
 use Rattle.log.proofs.Stepping.{advance-end, advance-entry, step-open}

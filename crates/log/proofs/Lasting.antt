@@ -15,7 +15,7 @@ use Rattle.log.specs.Bounds.{badState}
 use Rattle.log.specs.Sound.{Start, Sound, Stored, Missing}
 use Rattle.log.specs.Lookup.{Looking, found, absent, refused, looked, findOf, Right}
 use Rattle.log.specs.World.{World, logOf, lookup, looked-up, answer, Answers, ExactlyStored}
-use Rattle.log.proofs.Cases.{side}
+use Rattle.refusal.proofs.Cases.{side}
 use Rattle.log.proofs.Appending.{start-kept, start-back}
 use Rattle.log.proofs.Handing.{handed-over, nothing-absent}
 

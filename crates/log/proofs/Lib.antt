@@ -1,4 +1,3 @@
-pub mod Cases
 pub mod Bounding
 pub mod Ends
 pub mod Entering

@@ -16,7 +16,7 @@ use Rattle.log.specs.Sound.{Start, Sound}
 use Rattle.log.specs.Range.{holdsOf}
 use Rattle.log.specs.Items.{Item, itemAt, Rising, OfRange, Listing}
 use Rattle.log.specs.declared.scanning.Range.{Range}
-use Rattle.log.proofs.Cases.{side, order}
+use Rattle.refusal.proofs.Cases.{side, order}
 
 same : (m n : ℕ) → (m ≡ n) ⊎ (m ≡ n → ⊥)
 same m n = go (eqb m n) refl

@@ -12,7 +12,7 @@ use Rattle.log.specs.Bounds.{badState}
 use Rattle.log.specs.Sound.{Start, Sound, Stored, Missing}
 use Rattle.log.specs.Lookup.{Looking, found, absent, refused, allPages, findOf, lookupOf, Right, Room, RightLook}
 use Rattle.log.specs.declared.state.State.{State}
-use Rattle.log.proofs.Cases.{side, order}
+use Rattle.refusal.proofs.Cases.{side, order}
 use Rattle.log.proofs.Finding.{find-in, search-all}
 use Rattle.log.proofs.Handing.{handed-from, nothing-absent}
 use Rattle.log.proofs.RightRounds.{searched}

@@ -17,20 +17,10 @@ use Rattle.log.specs.Push.{Ready, batchPages, pushOf}
 use Rattle.log.specs.Recover.{Recovering, recoverOf, RightRecovery, empty, used-up, goes-on}
 use Rattle.log.specs.World.{World, world, logOf, Words, Call, push, take-id, lookup, scan, step-on, recover, answer, stateAfterTake, stateAfterRecovery, step, run, Settled}
 use Rattle.log.specs.declared.state.State.{State}
-use Rattle.log.proofs.Cases.{order}
 use Rattle.log.proofs.Bounding.{length-log}
 use Rattle.log.proofs.Appending.{start-kept}
 use Rattle.log.proofs.Batch.{push-grows, push-right}
-use Rattle.log.proofs.Resuming.{walk-ends, recover-right}
-
--- ---- ids of a sound log
-
--- a later start has an id at least as great
-pub rising-le : (log : List ℕ) → Sound log → (p q : ℕ) → Start log p → Start log q → p ≤ q → idAt log p ≤ idAt log q
-rising-le log s p q hp hq l = ⊎-elim
-    (λ e. rw e (omega arith))
-    (⊎-elim (λ m. omega (arith, s .rising p q hp hq m)) (λ m. absurd (omega arith)))
-    (order p q)
+use Rattle.log.proofs.Resuming.{last-greatest, walk-ends, recover-right}
 
 -- ---- a log that grew
 
@@ -72,7 +62,7 @@ stays-settled {w} {v} m id h =
       below = m .next id h;
       page = t .page;
       last = t .last;
-      most = omega (arith, h .most, id-on (m .grows) (h .page) (h .last .start), rising-le (logOf v) s (h .page) (t .page) a (t .last .start) (t .last .none (h .page) a));
+      most = omega (arith, h .most, id-on (m .grows) (h .page) (h .last .start), last-greatest (logOf v) s (t .page) (h .page) (t .last) a);
     }
 
 moved-none : (w : World) → Lives w → Moved w w
@@ -118,8 +108,8 @@ module _ (w : World) (i : Lives w) where
   moved-recovery r (goes-on p l u) =
       let s = i .ready .sound in
       restated w (recoveredAt (length (logOf w)) (idAt (logOf w) p)) i size
-      (λ q h. rising-le (logOf w) s q p h (l .start) (l .none q h))
-      (λ id h. omega (arith, h .most, rising-le (logOf w) s (h .page) p (h .last .start) (l .start) (l .none (h .page) (h .last .start))))
+      (λ q h. last-greatest (logOf w) s p q l h)
+      (λ id h. omega (arith, h .most, last-greatest (logOf w) s p (h .page) l (h .last .start)))
 
   pub moved : (c : Call) → Moved w (step w c)
   unfolding step answer

@@ -16,7 +16,7 @@ use Rattle.page.proofs.Starting.{IsWhole, is-whole}
 use Rattle.log.specs.Range.{holdsOf}
 use Rattle.log.specs.Step.{Reaching, met, none, faulty, Paging, stop, on, entered, atStart, pageOf, roundOf, forward, forwardFrom}
 use Rattle.log.specs.declared.scanning.Range.{Range}
-use Rattle.log.proofs.Cases.{side}
+use Rattle.refusal.proofs.Cases.{side}
 
 -- ---- what a page says
 

@@ -16,7 +16,7 @@ use Rattle.page.proofs.Starting.{IsWhole, whole-at}
 use Rattle.log.specs.Bounds.{tooLong}
 use Rattle.log.specs.Sound.{Start, Sound}
 use Rattle.log.specs.Check.{sound, refused, Turning, on, laterPages, atPage, atEnd, checkFrom, checkOf, SoundStore}
-use Rattle.log.proofs.Cases.{side, order}
+use Rattle.refusal.proofs.Cases.{side, order}
 use Rattle.log.proofs.Bounding.{fits, not-too-long}
 use Rattle.log.proofs.Turns.{later-done, later-on, start-later, past-start, page-start, page-idle, PageSays, idle, entry, faulty, page-says, from-end, from-fault, from-on, end-excess, end-sound, check-bad, check-good}
 

@@ -11,7 +11,7 @@ use Rattle.log.specs.Bounds.{badState}
 use Rattle.log.specs.Lookup.{found, allPages, searchOf, findOf}
 use Rattle.log.specs.declared.state.State.{State}
 use Rattle.log.proofs.Bounding.{good, length-log}
-use Rattle.log.proofs.Cases.{side}
+use Rattle.refusal.proofs.Cases.{side}
 use Rattle.log.proofs.Finding.{search-zero, search-late, search-all, find-bad, find-in}
 use Rattle.log.proofs.Rounds.{Held, Placed, search-placed}
 

@@ -15,7 +15,7 @@ use Rattle.log.specs.Bounds.{tooLong}
 use Rattle.log.specs.State.{fresh, recoveredAt, topId}
 use Rattle.log.specs.Recover.{recovered, refused, atLast, walkBack, excessOf, recoverLog, recoverOf}
 use Rattle.log.specs.declared.state.State.{State}
-use Rattle.log.proofs.Cases.{side}
+use Rattle.refusal.proofs.Cases.{side}
 use Rattle.log.proofs.Bounding.{fits, length-log}
 
 -- ---- at the last start

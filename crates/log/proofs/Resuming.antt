@@ -20,7 +20,7 @@ use Rattle.log.specs.State.{fresh, recoveredAt, topId}
 use Rattle.log.specs.Sound.{Start, Sound, Last}
 use Rattle.log.specs.Recover.{Recovering, recovered, atLast, walkBack, excessOf, cutLog, recoverOf, RightRecovery, empty, used-up, goes-on}
 use Rattle.log.specs.declared.state.State.{State}
-use Rattle.log.proofs.Cases.{side, order}
+use Rattle.refusal.proofs.Cases.{side, order}
 use Rattle.log.proofs.Bounding.{Fits, fits, not-too-long, length-log}
 use Rattle.log.proofs.Recovering.{last-used, last-goes-on, back-start, back-bad, back-later, length-cut, recover-bad, recover-fresh, recover-tail}
 

@@ -11,7 +11,7 @@ use Rattle.page.specs.Entry.{whole, lengthAt, idAt, afterAt, entryAt}
 use Rattle.page.proofs.Starting.{whole-at}
 use Rattle.log.specs.Sound.{Start, Sound}
 use Rattle.log.specs.Lookup.{Window, window, Next, stop, again, offsetIn, compared, met, walk, round, follow, search, Right}
-use Rattle.log.proofs.Cases.{side, order}
+use Rattle.refusal.proofs.Cases.{side, order}
 use Rattle.log.proofs.Rounds.{Between, Smaller, smaller, met-start, met-later, walk-at, round-open, offset-below, search-stop, search-step}
 
 -- the entries before the window have smaller ids, those from its end on greater ones

@@ -13,7 +13,7 @@ use Rattle.page.proofs.Marking.{IsBad, by-start, by-later, by-bad, mark-cases}
 use Rattle.log.specs.Guess.{offsetOf}
 use Rattle.log.specs.Sound.{Stored}
 use Rattle.log.specs.Lookup.{Looking, found, absent, refused, Window, window, Next, stop, again, offsetIn, compared, met, walk, round, follow, search}
-use Rattle.log.proofs.Cases.{order, side}
+use Rattle.refusal.proofs.Cases.{order, side}
 
 -- ---- a page on the way back
 

@@ -19,7 +19,7 @@ use Rattle.log.specs.declared.state.State.{State}
 use Rattle.log.specs.declared.scanning.End.{End}
 use Rattle.log.specs.declared.scanning.End.the-variants.{Open, Included, Excluded}
 use Rattle.log.specs.declared.scanning.Range.{Range}
-use Rattle.log.proofs.Cases.{side}
+use Rattle.refusal.proofs.Cases.{side}
 use Rattle.log.proofs.Bounding.{good, length-log}
 use Rattle.log.proofs.Finding.{find-zero, find-late}
 use Rattle.log.proofs.LookupRight.{find-right}

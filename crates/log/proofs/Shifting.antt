@@ -8,7 +8,7 @@ use borrow.Author.Tests.{lt-ltb, le-ltb}
 use lib.Pow.{pow-pos, pow-mono, pow-add}
 use lib.Count.{leadingZeros, leading-top}
 use Rattle.log.specs.Guess.{shifted, leastFrom, leastShift}
-use Rattle.log.proofs.Cases.{order}
+use Rattle.refusal.proofs.Cases.{order}
 
 -- k bits leave y below 2^32, and no fewer do
 pub record Least (y k : ℕ) : Type 0 where

@@ -15,7 +15,7 @@ use Rattle.page.proofs.Marking.{IsBad, mark-cases, by-start, by-later, by-bad}
 use Rattle.page.proofs.Starting.{IsWhole, is-whole}
 use Rattle.log.specs.Bounds.{tooLong}
 use Rattle.log.specs.Check.{sound, refused, Turning, on, fault, laterPages, atStart, atPage, atEnd, checkFrom, checkOf}
-use Rattle.log.proofs.Cases.{side}
+use Rattle.refusal.proofs.Cases.{side}
 use Rattle.log.proofs.Bounding.{fits, length-log}
 
 -- ---- the later pages of an entry

@@ -22,6 +22,7 @@ pub enum End {
     Excluded(u64),
 }
 
+// The ids between two ends.
 pub struct Range {
     pub lower: End,
     pub upper: End,
@@ -41,6 +42,7 @@ impl Range {
     }
 }
 
+// The id is on the inner side of the lower end.
 fn is_above(lower: End, id: u64) -> bool
     ensures { λ r. ⌜ r ≡ aboveLower lower id ⌝ }
 {
@@ -51,6 +53,7 @@ fn is_above(lower: End, id: u64) -> bool
     }
 }
 
+// The id is on the inner side of the upper end.
 fn is_below(upper: End, id: u64) -> bool
     ensures { λ r. ⌜ r ≡ belowUpper upper id ⌝ }
 {
@@ -137,6 +140,7 @@ fn at_start(log: &[u8], range: Range, p: usize) -> Seen
     }
 }
 
+// One page: 5, a start, or on to the next.
 fn look_at(log: &[u8], range: Range, p: usize) -> Seen
     requires { ⌜ p < pageCount (now log) ⌝ }
     ensures { λ r. ⌜ paperSeen r ≡ pageOf (now (log .entry)) range p ⌝ }

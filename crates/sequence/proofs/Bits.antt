@@ -9,7 +9,7 @@ use borrow.Author.Tests.{lt-ltb, le-ltb, eq-eqb, ne-eqb}
 use lib.Bits.{bitAnd, bitOr, and-high, or-add-and, or-shr, or-step}
 use lib.Pow.{pow-pos, pow-lt, pow-mono, pow-add, high-ones, field, mod-pow-add, mod-mod-pow, shl-shr}
 use lib.Dec.{lit<, eqb}
-use Rattle.sequence.proofs.Order.{side}
+use Rattle.refusal.proofs.Cases.{side}
 use Rattle.sequence.specs.Window.{bit, marked, lowest}
 use Rattle.refusal.specs.Pick.{pick}
 

@@ -9,7 +9,7 @@ use lib.Bits.{bitAnd, and-mask}
 use lib.ListN.{length, getD, set, length-set, List·getD-eq-default}
 use lib.Seq.{ext-getD, set-out, getD-set-same, getD-set-other}
 use Rattle.sequence.specs.Window.{lowest, only}
-use Rattle.sequence.proofs.Order.{side}
+use Rattle.refusal.proofs.Cases.{side}
 use Rattle.sequence.proofs.Bits.{lowest-some, lowest-all, lowest-zero}
 
 -- ---- what is left, word by word

@@ -11,7 +11,7 @@ use Rattle.sequence.specs.Window.{bitAt, allNoted}
 use Rattle.sequence.specs.Sequence.{next, stored, rounds, completeOf}
 use Rattle.sequence.specs.Known.{Known}
 use Rattle.sequence.specs.History.{History, begun, answered, step, run, In, NoGap, Right}
-use Rattle.sequence.proofs.Order.{side}
+use Rattle.refusal.proofs.Cases.{side}
 use Rattle.sequence.proofs.Bits.{bits-ones}
 use Rattle.sequence.proofs.Window.{first-bit}
 use Rattle.sequence.proofs.Rounds.{rounds-stopped}

@@ -10,7 +10,7 @@ use lib.ListN.{length, getD, length-set}
 use Rattle.sequence.specs.Window.{bitAt, marked, markedAt, allNoted, only, shifted}
 use Rattle.sequence.specs.Sequence.{next, passed, rounds}
 use Rattle.sequence.specs.Known.{Known}
-use Rattle.sequence.proofs.Order.{side, same-or-not}
+use Rattle.refusal.proofs.Cases.{side, same-or-not}
 use Rattle.sequence.proofs.Bits.{ones-bits}
 use Rattle.sequence.proofs.Window.{marked-at, marked-elsewhere, shifted-bit, shifted-length, only-kept, only-cleared, first-bit}
 use Rattle.sequence.proofs.Clearing.{only-length}

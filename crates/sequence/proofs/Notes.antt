@@ -8,7 +8,7 @@ use lib.ListN.{getD, set}
 use Rattle.sequence.specs.Window.{marked, only}
 use Rattle.sequence.specs.Sequence.{Answer, refused, Moved, truncateOf, stored, raised, Outcome, outcome, settled, noteOf}
 use Rattle.sequence.specs.declared.IdSequence.{IdSequence}
-use Rattle.sequence.proofs.Order.{side, same-or-not}
+use Rattle.refusal.proofs.Cases.{side, same-or-not}
 
 -- an answer and its words, apart
 pub apart : {a : Answer} {ws : List ℕ} {o : Outcome} → o ≡ outcome a ws → (a ≡ o .answer) × (ws ≡ o .words)

@@ -11,7 +11,7 @@ use lib.Dec.{ltb}
 use Rattle.sequence.specs.Sequence.{Moved, moved, next, passed, rounds, truncateOf}
 use Rattle.sequence.specs.Window.{allNoted, shifted}
 use Rattle.refusal.specs.Pick.{pick}
-use Rattle.sequence.proofs.Order.{side}
+use Rattle.refusal.proofs.Cases.{side}
 
 module _ (after start : ℕ) (words : List ℕ) where
   pub rounds-none : rounds 0 after start words ≡ moved start words

@@ -8,7 +8,7 @@ use native.Mathlib.Omega.{arith}
 use lib.ListN.{length, getD, drop, set, length-set, length-append, length-drop, List·getD-append}
 use lib.Seq.{ext-getD, getD-set-same, getD-set-other, getD-drop, getD-at}
 use Rattle.sequence.specs.Window.{shifted}
-use Rattle.sequence.proofs.Order.{side}
+use Rattle.refusal.proofs.Cases.{side}
 
 -- the first i words of w are those of v one further, and the others are v's
 pub record Shifted (v w : List ℕ) (i : ℕ) : Type 0 where

@@ -8,7 +8,7 @@ use native.Mathlib.Omega.{arith}
 use lib.ListN.{length, getD, length-append}
 use lib.Seq.{getD-set-same, getD-set-other}
 use Rattle.sequence.specs.Window.{bit, bitAt, marked, markedAt, lowest, only, shifted}
-use Rattle.sequence.proofs.Order.{side, same-or-not}
+use Rattle.refusal.proofs.Cases.{side, same-or-not}
 use Rattle.sequence.proofs.Bits.{marked-same, marked-other, lowest-below, lowest-above}
 use Rattle.sequence.proofs.Clearing.{only-word, only-beyond}
 

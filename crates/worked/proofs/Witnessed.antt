@@ -21,7 +21,7 @@ use Rattle.log.specs.Check.{sound, laterPages as checkLater, atStart, atPage, a
 use Rattle.log.specs.Recover.{recovered, atLast, walkBack, recoverLog, recoverOf}
 use Rattle.log.specs.Push.{entryData, some, badEnd, badBatch, largeData, someLarge, wrote, placed, turn, entriesFrom, pushOf}
 use Rattle.log.specs.World.{World, world, logOf, Words, Call, push, take-id, lookup, recover, looked-up, answer, step, run, Begun, Settled, KeepsFirst}
-use Rattle.log.proofs.Cases.{order}
+use Rattle.refusal.proofs.Cases.{order}
 use Rattle.log.proofs.Passing.{checked-sound}
 use Rattle.log.proofs.Lasting.{handedData}
 use Rattle.log.proofs.Demands.{begun-settled, settled}
