@@ -39,10 +39,21 @@ impl From<io::Error> for Error {
     }
 }
 
+/// A file that is locked while this stands. Closing alone would not unlock it at once: a process that another thread
+/// is just starting holds a copy of the descriptor, and with it the lock, until it runs its program.
+#[derive(Debug)]
+struct Locked(File);
+
+impl Drop for Locked {
+    fn drop(&mut self) {
+        let _ = self.0.unlock();
+    }
+}
+
 /// A log in a file. The library decides what the bytes are; this type reads, writes and syncs them.
 #[derive(Debug)]
 pub struct LogFile {
-    file: File,
+    file: Locked,
     log: Log,
     excess: u64,
     /// A write failed, so that the file may lack entries that the memory has.
@@ -53,17 +64,18 @@ impl LogFile {
     /// Opens a log, or makes an empty one, for a store of so many bytes; recovers it, and cuts a part page, which
     /// a crash in the middle of a write leaves, off the file. A second opening at the same time is an error.
     pub fn open(path: impl AsRef<Path>, capacity: usize) -> Result<LogFile, Error> {
-        let mut file = OpenOptions::new().read(true).write(true).create(true).truncate(false).open(path)?;
+        let file = OpenOptions::new().read(true).write(true).create(true).truncate(false).open(path)?;
         file.try_lock().map_err(io::Error::from)?;
-        let length = file.metadata()?.len();
+        let mut file = Locked(file);
+        let length = file.0.metadata()?.len();
         let mut store = vec![0; capacity];
         // A longer file is not read to its end: the library refuses a length above the store's size.
         let kept = length.min(capacity as u64) as usize;
-        file.read_exact(&mut store[..kept])?;
+        file.0.read_exact(&mut store[..kept])?;
         let (log, excess) = Log::recover(store, length)?;
         if excess > 0 {
-            file.set_len(log.state().length)?;
-            file.sync_all()?;
+            file.0.set_len(log.state().length)?;
+            file.0.sync_all()?;
         }
         Ok(LogFile { file, log, excess, behind: false })
     }
@@ -86,9 +98,9 @@ impl LogFile {
 
     /// Writes the log's bytes from a position on, and waits until the disk has them.
     fn write_from(&mut self, position: u64) -> io::Result<()> {
-        self.file.seek(SeekFrom::Start(position))?;
-        self.file.write_all(&self.log.bytes()[position as usize..])?;
-        self.file.sync_data()
+        self.file.0.seek(SeekFrom::Start(position))?;
+        self.file.0.write_all(&self.log.bytes()[position as usize..])?;
+        self.file.0.sync_data()
     }
 
     /// Takes the next id. It is in no file until an entry with it is pushed.
