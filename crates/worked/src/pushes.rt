@@ -180,12 +180,20 @@ fn no_room() {
 }
 
 fn batches() {
+    counts();
+    ends();
+}
+
+fn counts() {
     say::text(b"an empty batch: ");
     attempt(State::fresh(), &[], &[], b"ignored");
     say::text(b"two ids and one end: ");
     attempt(State::fresh(), &[1, 2], &[1], b"xyz");
     say::text(b"one id and two ends: ");
     attempt(State::fresh(), &[1], &[1, 2], b"xyz");
+}
+
+fn ends() {
     say::text(b"ends that fall, 2 then 1: ");
     attempt(State::fresh(), &[1, 2], &[2, 1], b"xyz");
     say::text(b"an end beyond the data: ");

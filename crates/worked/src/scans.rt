@@ -166,34 +166,57 @@ fn one(store: &[u8], s: State, lower: End, upper: End) {
 }
 
 fn ranges(store: &[u8]) {
-    let s = state(7168, 11);
     say::text(b"scans of ids 2, 4 on three pages, an idle page, 6, 9; next 11\n");
+    open_ends(store);
+    closed_ends(store);
+    ends_not_stored(store);
+}
+
+fn open_ends(store: &[u8]) {
+    let s = state(7168, 11);
     one(store, s, End::Open, End::Open);
     one(store, s, End::Open, End::Included(4));
     one(store, s, End::Open, End::Excluded(4));
     one(store, s, End::Included(4), End::Open);
     one(store, s, End::Excluded(4), End::Open);
+}
+
+fn closed_ends(store: &[u8]) {
+    let s = state(7168, 11);
     one(store, s, End::Included(4), End::Included(6));
     one(store, s, End::Included(4), End::Excluded(6));
     one(store, s, End::Excluded(4), End::Included(6));
+}
+
+fn ends_not_stored(store: &[u8]) {
+    let s = state(7168, 11);
     one(store, s, End::Included(5), End::Included(8));
     one(store, s, End::Included(6), End::Included(6));
     one(store, s, End::Excluded(0), End::Included(2));
 }
 
 fn empty_ranges(store: &[u8]) {
-    let s = state(7168, 11);
     say::text(b"ranges with nothing in them\n");
+    nothing_between(store);
+    crossed_and_beyond(store);
+    say::text(b"no pages, next 1\n");
+    one(store, state(0, 1), End::Open, End::Open);
+    one(store, state(0, 1), End::Included(1), End::Open);
+}
+
+fn nothing_between(store: &[u8]) {
+    let s = state(7168, 11);
     one(store, s, End::Excluded(4), End::Excluded(6));
     one(store, s, End::Included(6), End::Excluded(6));
     one(store, s, End::Included(3), End::Included(3));
+}
+
+fn crossed_and_beyond(store: &[u8]) {
+    let s = state(7168, 11);
     one(store, s, End::Included(9), End::Included(4));
     one(store, s, End::Included(0), End::Excluded(2));
     one(store, s, End::Included(10), End::Open);
     one(store, s, End::Included(11), End::Open);
-    say::text(b"no pages, next 1\n");
-    one(store, state(0, 1), End::Open, End::Open);
-    one(store, state(0, 1), End::Included(1), End::Open);
 }
 
 // A lower end at or above next starts at the log's end, though ids are stored from there on.
@@ -241,14 +264,22 @@ fn into_long(store: &[u8], cursor: u64, n: usize) {
 }
 
 fn outputs(store: &[u8]) {
-    let above = range(End::Excluded(4), End::Open);
+    short_outputs(store);
+    say::text(b"4 into 2991 and 2992 bytes\n");
+    into_long(store, 1024, 2991);
+    into_long(store, 1024, 2992);
+    outputs_out_of_range(store);
+}
+
+fn short_outputs(store: &[u8]) {
     say::text(b"2 into 2, 3 and 5 bytes that held dots\n");
     into_two(store, all());
     into_three(store, all());
     into_five(store, all());
-    say::text(b"4 into 2991 and 2992 bytes\n");
-    into_long(store, 1024, 2991);
-    into_long(store, 1024, 2992);
+}
+
+fn outputs_out_of_range(store: &[u8]) {
+    let above = range(End::Excluded(4), End::Open);
     say::text(b"from page 0 into 2 and 3 bytes, 2 and 4 not in the range\n");
     into_two(store, above);
     into_three(store, above);

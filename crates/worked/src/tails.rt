@@ -159,7 +159,7 @@ fn marks() {
     tell(b"an idle page", &with_mark(3, 0), 4096);
 }
 
-fn entries() {
+fn lengths() {
     tell(b"payload length 0", &with_start(3, 0, 3), 4096);
     tell(b"payload length 7", &with_start(3, 7, 3), 4096);
     tell(b"payload length 8", &with_start(3, 8, 3), 4096);
@@ -173,8 +173,14 @@ fn entries() {
         &with_start(3, 1021, 3),
         4096,
     );
+}
+
+fn starts() {
     tell(b"a start inside an entry", &with_start(2, 8, 7), 4096);
     tell(b"a start inside the last entry", &with_start(2, 8, 7), 3072);
+}
+
+fn ids() {
     tell(b"ids equal", &with_start(3, 13, 2), 4096);
     tell(b"ids falling", &with_start(3, 13, 1), 4096);
     tell(b"id 0", &with_start(0, 8, 0), 1024);
@@ -185,5 +191,7 @@ pub fn run() {
     states();
     sizes();
     marks();
-    entries();
+    lengths();
+    starts();
+    ids();
 }
