@@ -1,5 +1,5 @@
-//! Three planners share one log of the builds that they really make. A what-if session takes an id as a build
-//! does, and drops it: nothing of it is stored. Later a planner asks of each id which it was.
+//! Three query planners share one catalog log of the indexes that they really build. A what-if session takes an id
+//! as a build does, and drops it: nothing of it is stored. Later a planner asks of each id which it was.
 //!
 //! `cargo run --example planners [FILE]`; without a file the log lies in the temporary folder and is removed.
 use std::path::PathBuf;
@@ -9,19 +9,19 @@ use awirbesh::{Entry, Error, IdSequence, LogFile};
 /// Bytes of memory, and the most that the log's file can grow to.
 const CAPACITY: usize = 1 << 20;
 
-/// The desk to which planners bring what they finished, in any order. Ids go into the log in ascending order, so
+/// Where the planners bring the index builds that they finished, in any order. Ids go into the log in ascending order, so
 /// a build waits here until every id before it is settled: built or dropped.
-struct Desk {
+struct Catalog {
     log: LogFile,
     settled: IdSequence,
     waiting: Vec<Entry>,
 }
 
-impl Desk {
-    fn open(path: &PathBuf) -> Result<Desk, Error> {
+impl Catalog {
+    fn open(path: &PathBuf) -> Result<Catalog, Error> {
         let log = LogFile::open(path, CAPACITY)?;
         let settled = IdSequence::new(log.log().state().next);
-        Ok(Desk { log, settled, waiting: Vec::new() })
+        Ok(Catalog { log, settled, waiting: Vec::new() })
     }
 
     fn take(&mut self, who: &str) -> Result<u64, Error> {
@@ -30,10 +30,10 @@ impl Desk {
         Ok(id)
     }
 
-    /// A real build is finished.
-    fn build(&mut self, who: &str, id: u64, plan: &str) -> Result<(), Error> {
-        println!("{who} brings build {id}: {plan}");
-        self.waiting.push(Entry::new(id, plan));
+    /// A real index is built.
+    fn build(&mut self, who: &str, id: u64, index: &str) -> Result<(), Error> {
+        println!("{who} brings index {id}: {index}");
+        self.waiting.push(Entry::new(id, index));
         self.settle(id)
     }
 
@@ -56,44 +56,44 @@ impl Desk {
 }
 
 fn tell(path: &PathBuf) -> Result<(), Error> {
-    let mut desk = Desk::open(path)?;
+    let mut catalog = Catalog::open(path)?;
 
-    let kitchen = desk.take("Ada")?;
-    let bridge = desk.take("Ben")?;
-    let what_if = desk.take("Cleo")?;
-    let tower = desk.take("Cleo")?;
+    let on_orders = catalog.take("planner A")?;
+    let on_lines = catalog.take("planner B")?;
+    let what_if = catalog.take("planner C")?;
+    let on_events = catalog.take("planner C")?;
 
-    desk.build("Cleo", tower, "tower, 12 floors")?;
-    desk.build("Ada", kitchen, "kitchen, blue tiles")?;
-    desk.drop_id("Cleo", what_if)?;
-    desk.build("Ben", bridge, "bridge, two lanes")?;
+    catalog.build("planner C", on_events, "events (day, kind)")?;
+    catalog.build("planner A", on_orders, "orders (customer, day)")?;
+    catalog.drop_id("planner C", what_if)?;
+    catalog.build("planner B", on_lines, "lines (product)")?;
 
-    let another = desk.take("Ada")?;
-    desk.drop_id("Ada", another)?;
-    let garden = desk.take("Ben")?;
-    desk.build("Ben", garden, "garden, forty trees")?;
+    let another = catalog.take("planner A")?;
+    catalog.drop_id("planner A", another)?;
+    let on_customers = catalog.take("planner B")?;
+    catalog.build("planner B", on_customers, "customers (city)")?;
 
     println!("\nwhich is which?");
-    for id in 1..desk.log.log().state().next {
-        match desk.log.log().get(id)? {
-            Some(plan) => println!("  {id} was built: {}", String::from_utf8_lossy(&plan)),
+    for id in 1..catalog.log.log().state().next {
+        match catalog.log.log().get(id)? {
+            Some(index) => println!("  {id} is real: {}", String::from_utf8_lossy(&index)),
             None => println!("  {id} was a what-if"),
         }
     }
 
-    println!("\nBen brings build {bridge} again");
-    match desk.log.push(&[Entry::new(bridge, "bridge, four lanes")]) {
+    println!("\nplanner B brings index {on_lines} again");
+    match catalog.log.push(&[Entry::new(on_lines, "lines (product, day)")]) {
         Err(Error::PushRefused(refused)) => println!("  {refused}"),
         other => println!("  not as expected: {other:?}"),
     }
 
-    println!("\nbuilds {bridge} to {garden}, the last left out:");
-    for entry in desk.log.log().scan(bridge..garden)? {
+    println!("\nindexes {on_lines} to {on_customers}, the last left out:");
+    for entry in catalog.log.log().scan(on_lines..on_customers)? {
         let entry = entry?;
         println!("  {}: {}", entry.id, String::from_utf8_lossy(&entry.data));
     }
 
-    drop(desk);
+    drop(catalog);
     let again = LogFile::open(path, CAPACITY)?;
     again.log().check()?;
     let state = again.log().state();
