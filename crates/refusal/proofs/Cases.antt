@@ -6,6 +6,7 @@ use mathlib.Core.Logic.{_⊎_, inl, inr, ⊎-elim}
 use native.Mathlib.Omega.{arith}
 use borrow.Author.Tests.{ltb-true, ltb-false, eqb-true, eqb-false}
 use lib.Dec.{ltb, eqb}
+use Rattle.refusal.specs.Pick.{pick}
 
 pub side : (m n : ℕ) → (m < n) ⊎ (n ≤ m)
 side m n = go (ltb m n) refl
@@ -23,3 +24,13 @@ same-or-not m n = go (eqb m n) refl
     go : (t : Bool) → eqb m n ≡ t → (m ≡ n) ⊎ (m ≡ n → ⊥)
     go true e = inl (eqb-true m n e)
     go false e = inr (eqb-false m n e)
+
+-- a Bool is one of two
+pub which : (t : Bool) → (t ≡ true) ⊎ (t ≡ false)
+which true = inl refl
+which false = inr refl
+
+-- what holds of both answers holds of the one that a test picks
+pub either : {A : Type 0} (P : A → Type 0) (t : Bool) {x y : A} → P x → P y → P (pick t x y)
+either P true a b = a
+either P false a b = b

@@ -1,5 +1,5 @@
--- The number and the value tell a refusal from every other. Assumes nothing.
-use mathlib.Core.Path.{_≡_, refl}
+-- The number and the value tell a refusal from every other; and where paper tells answers apart, a promise has one. Assumes nothing.
+use mathlib.Core.Path.{_≡_, refl, sym, _∙_}
 use Prim.Native.Nat.{ℕ}
 use lib.Dec.{eqb}
 use Rattle.refusal.specs.Pick.{pick}
@@ -48,3 +48,7 @@ back ValueTooLarge = refl
 
 pub refusal-unique : (r s : Refusal) → numberOf r ≡ numberOf s → valueOf r ≡ valueOf s → r ≡ s
 refusal-unique r s n v = cc (back r, back s)
+
+-- a promise `paper r ≡ answer` is met by one result
+pub by-paper : {A B : Type 0} (paper : A → B) → ((r s : A) → paper r ≡ paper s → r ≡ s) → (answer : B) (r s : A) → paper r ≡ answer → paper s ≡ answer → r ≡ s
+by-paper paper tells answer r s p q = tells r s (p ∙ sym q)
