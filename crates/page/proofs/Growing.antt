@@ -1,11 +1,11 @@
 -- What a log keeps when bytes are put after it, and what an entry's pages put after it add. Assumes nothing.
-use mathlib.Core.Path.{_≡_, refl, sym, ap, _∙_}
+use mathlib.Core.Path.{_≡_, _∙_}
 use mathlib.Core.List.{List, _++_}
-use Prim.Native.Nat.{ℕ, _+_, _*_, _/_, _%_, _^_, _<_, _≤_}
+use Prim.Native.Nat.{ℕ, _+_, _*_, _%_, _^_, _<_, _≤_}
 use native.Mathlib.Omega.{arith}
 use native.Mathlib.Nat.{zero-add}
 use lib.ListN.{length, length-append}
-use Rattle.page.specs.Size.{pageSize, pagesFor, pageCount, pageAt}
+use Rattle.page.specs.Size.{pageSize, pageCount, pageAt, dataEnd, idSize, pagesForData}
 use Rattle.page.specs.Mark.{markAt}
 use Rattle.page.specs.Entry.{lengthAt, idAt}
 use Rattle.page.specs.Data.{dataAt}
@@ -28,7 +28,7 @@ module _ (log x : List ℕ) where
     pub id-kept : idAt (log ++ x) p ≡ idAt log p
     id-kept = id-same (log ++ x) log p p (page-kept log x p inside)
 
-  pub data-kept : (s n : ℕ) → s + pagesFor (8 + n) ≤ pageCount log → dataAt (log ++ x) s n ≡ dataAt log s n
+  pub data-kept : (s n : ℕ) → s + pagesForData n ≤ pageCount log → dataAt (log ++ x) s n ≡ dataAt log s n
   data-kept s n within = data-same (log ++ x) log s s n (λ j h. page-kept log x (s + j) (omega arith))
 
 -- ---- an entry's pages put after a log of whole pages read back
@@ -37,13 +37,13 @@ module _ (log image : List ℕ) (id : ℕ) (d : List ℕ) (whole : length log % 
   abbrev entry : List ℕ
   entry = entryPages image id d
 
-  pub length-added : length (log ++ entry) ≡ length log + pagesFor (8 + length d) * pageSize
+  pub length-added : length (log ++ entry) ≡ length log + pagesForData (length d) * pageSize
   length-added = length-append log entry ∙ rw (length-entry image id d full)
 
   pub whole-added : length (log ++ entry) % pageSize ≡ 0
   whole-added = omega (arith, length-added)
 
-  pub count-added : pageCount (log ++ entry) ≡ pageCount log + pagesFor (8 + length d)
+  pub count-added : pageCount (log ++ entry) ≡ pageCount log + pagesForData (length d)
   count-added = omega (arith, length-added)
 
   at-zero : pageAt (log ++ entry) (pageCount log) ≡ pageAt entry 0
@@ -52,10 +52,10 @@ module _ (log image : List ℕ) (id : ℕ) (d : List ℕ) (whole : length log % 
   pub mark-added : markAt (log ++ entry) (pageCount log) ≡ 1
   mark-added = mark-same (log ++ entry) entry (pageCount log) 0 at-zero ∙ mark-first image id d full
 
-  pub later-mark-added : (j : ℕ) → 0 < j → j < pagesFor (8 + length d) → markAt (log ++ entry) (pageCount log + j) ≡ 0
+  pub later-mark-added : (j : ℕ) → 0 < j → j < pagesForData (length d) → markAt (log ++ entry) (pageCount log + j) ≡ 0
   later-mark-added j some within = mark-same (log ++ entry) entry (pageCount log + j) j (page-added log entry whole j) ∙ mark-later image id d full j some within
 
-  pub payload-added : length d < 16777208 → lengthAt (log ++ entry) (pageCount log) ≡ 8 + length d
+  pub payload-added : length d < dataEnd → lengthAt (log ++ entry) (pageCount log) ≡ idSize + length d
   payload-added h = length-same (log ++ entry) entry (pageCount log) 0 at-zero ∙ length-first-page image id d full h
 
   pub id-added : id < 2 ^ 64 → idAt (log ++ entry) (pageCount log) ≡ id

@@ -4,6 +4,7 @@ pub mod Digits
 pub mod Parting
 pub mod Placing
 pub mod Paging
+pub mod Runs
 pub mod Starting
 pub mod Heading
 pub mod Turning
@@ -12,5 +13,4 @@ pub mod Reading
 pub mod Written
 pub mod Growing
 pub mod Marking
-pub mod Worked
 pub mod Unique

@@ -1,7 +1,7 @@
 -- Laws of a list given value by value, and of stores that fill a list from the front. Assumes nothing.
-use mathlib.Core.Path.{_≡_, refl, sym, ap, _∙_}
+use mathlib.Core.Path.{_≡_, refl, sym, _∙_}
 use mathlib.Core.List.{List, [], _∷_, _++_}
-use Prim.Native.Nat.{ℕ, zero, suc, _+_, _<_, _≤_}
+use Prim.Native.Nat.{ℕ, zero, suc, _+_, _<_}
 use native.Mathlib.Numerals.{add-one}
 use native.Mathlib.Omega.{arith}
 use native.Mathlib.Decide.{decLt}
@@ -23,7 +23,7 @@ pub copy-store : (s l : List ℕ) (i : ℕ) → i < length s → i < length l �
 copy-store s l i h k =
     rw (add-one, drop-cons l i 0 k, set-at (take i s) (getD l i 0) (drop (suc i) l) (getD s i 0) i (length-take-le i s (omega arith)), take-suc s i 0 h) (sym (append-snoc (take i s) (getD s i 0) (drop (suc i) l)))
 
-getD-tab : (f : ℕ → ℕ) (n i d : ℕ) → i < n → getD (tab f n) i d ≡ f i
+pub getD-tab : (f : ℕ → ℕ) (n i d : ℕ) → i < n → getD (tab f n) i d ≡ f i
 getD-tab f zero i d h = absurd (omega arith)
 getD-tab f (suc n) i d h = elim (decLt i n) [
   | yes l ↦ List·getD-append (tab f n) (f n ∷ []) d i (rw length-tab l) ∙ getD-tab f n i d l

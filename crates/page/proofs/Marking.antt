@@ -8,7 +8,6 @@ use borrow.Author.Tests.{eq-eqb, ne-eqb, eqb-true, eqb-false}
 use lib.Dec.{eqb}
 use Rattle.refusal.specs.Pick.{pick}
 use Rattle.page.specs.Mark.{byMark, markOf}
-use Rattle.page.specs.declared.marks.Mark.{Mark}
 use Rattle.page.specs.declared.marks.Mark.the-variants.{Start, Later, Bad}
 
 -- neither 0 nor 1

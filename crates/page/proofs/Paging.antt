@@ -1,10 +1,10 @@
 -- Pages of a log: a page's bytes where they lie, and what a log keeps and gains when bytes are put after it. Assumes nothing.
-use mathlib.Core.Path.{_≡_, refl, sym, ap, _∙_}
+use mathlib.Core.Path.{_≡_, sym, _∙_}
 use mathlib.Core.List.{List, _++_}
-use Prim.Native.Nat.{ℕ, _+_, _-_, _*_, _/_, _%_, _<_, _≤_}
+use Prim.Native.Nat.{ℕ, _+_, _-_, _*_, _%_, _<_, _≤_}
 use native.Mathlib.Omega.{arith}
 use lib.Dec.{lit<}
-use lib.ListN.{length, getD, take, drop, length-drop, length-append}
+use lib.ListN.{length, getD, drop, length-drop, length-take}
 use lib.Seq.{getD-take, getD-drop, take-append-le, drop-append-le, drop-append-add, drop-drop}
 use Rattle.page.specs.Size.{pageSize, pageCount, pageAt}
 use Rattle.page.specs.Mark.{markAt}
@@ -17,6 +17,10 @@ page-byte log p k m h e = rw e (getD-take pageSize (drop (p * pageSize) log) k 0
 pub mark-byte : (log : List ℕ) (p : ℕ) → markAt log p ≡ getD log (p * pageSize) 0
 unfolding markAt
 mark-byte log p = page-byte log p 0 (p * pageSize) (lit< tt) (omega arith)
+
+pub length-page : (log : List ℕ) (p : ℕ) → p < pageCount log → length (pageAt log p) ≡ pageSize
+unfolding pageAt
+length-page log p h = simp (length-take, length-drop) (omega arith)
 
 -- logs that agree from page s on have the same pages from there on
 pub page-from : (log other : List ℕ) (s p : ℕ) → s ≤ p → drop (s * pageSize) log ≡ drop (s * pageSize) other → pageAt log p ≡ pageAt other p

@@ -1,12 +1,11 @@
 -- Reading depends only on the entry's own pages. Assumes nothing.
-use mathlib.Core.Path.{_≡_, refl, sym, ap, _∙_}
+use mathlib.Core.Path.{_≡_, sym, ap, _∙_}
 use mathlib.Core.List.{List}
 use Prim.Native.Nat.{ℕ, _+_, _*_, _/_, _%_, _<_}
 use native.Mathlib.Omega.{arith}
 use lib.ListN.{getD, drop}
 use lib.Seq.{getD-drop}
-use Rattle.page.specs.Size.{pageSize, pagesFor, pageCount, pageAt}
-use Rattle.page.specs.Bytes.{numberAt}
+use Rattle.page.specs.Size.{pageSize, pageCount, pageAt, pagesForData}
 use Rattle.page.specs.Mark.{markAt}
 use Rattle.page.specs.Entry.{lengthAt, idAt, entryAt}
 use Rattle.page.specs.Data.{placeOf, dataOf, dataAt}
@@ -38,7 +37,7 @@ on-page log s k =
     getD-drop (s * pageSize) log k 0
     ∙ sym (page-byte log (s + k / pageSize) (k % pageSize) (s * pageSize + k) (omega arith) (omega arith))
 
-pub data-same : (log other : List ℕ) (s t n : ℕ) → ((j : ℕ) → j < pagesFor (8 + n) → pageAt log (s + j) ≡ pageAt other (t + j)) → dataAt log s n ≡ dataAt other t n
+pub data-same : (log other : List ℕ) (s t n : ℕ) → ((j : ℕ) → j < pagesForData n → pageAt log (s + j) ≡ pageAt other (t + j)) → dataAt log s n ≡ dataAt other t n
 unfolding dataAt dataOf
 data-same log other s t n same = tab-same _ _ n (λ i h.
     let k = placeOf i in

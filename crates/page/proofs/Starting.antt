@@ -1,18 +1,18 @@
 -- What starts at a page: read from the part from its start page, and what a whole entry is. Assumes nothing.
-use mathlib.Core.Path.{_≡_, refl, sym, ap, _∙_}
+use mathlib.Core.Path.{_≡_, refl, sym, _∙_}
 use mathlib.Core.Bool.{Bool, true, false}
-use mathlib.Core.Logic.{_⊎_, inl, inr}
 use mathlib.Core.List.{List}
 use Prim.Native.Nat.{ℕ, _+_, _-_, _*_, _≤_, _<_}
 use native.Mathlib.Omega.{arith}
 use borrow.Author.Tests.{lt-ltb, le-ltb, ltb-false}
 use lib.Dec.{ltb}
-use lib.ListN.{length, getD, take, drop}
+use lib.ListN.{length, take, drop}
 use lib.Seq.{getD-drop}
 use Rattle.refusal.specs.Pick.{pick}
-use Rattle.page.specs.Size.{pageSize, pagesFor, pageCount, pageAt}
+use Rattle.page.specs.Size.{pageSize, lengthSize, idSize, payloadStart, pagesFor, pagesForData, pageCount, pageAt}
 use Rattle.page.specs.Bytes.{numberAt}
-use Rattle.page.specs.Entry.{Starting, whole, refused, lengthAt, idAt, afterAt, entryAt}
+use Rattle.page.specs.Entry.{short, cut, whole, lengthAt, idAt, dataLengthAt, afterAt, entryAt}
+use Rattle.page.proofs.Counting.{pages-some}
 use Rattle.page.proofs.Digits.{number-same}
 use Rattle.page.proofs.Paging.{page-byte}
 use Rattle.page.proofs.Parting.{rest-of}
@@ -25,75 +25,64 @@ module _ (log : List ℕ) (s : ℕ) where
   header a k h = rw (rest-of (s * pageSize) log) (number-same _ _ a a k (λ i l.
       getD-drop (s * pageSize) log (a + i) 0 ∙ sym (page-byte log s (a + i) (s * pageSize + (a + i)) (omega arith) refl)))
 
-  module _ (n : ℕ) (e : n ≡ numberAt (take (length log - s * pageSize) (drop (s * pageSize) log)) 1 3) where
+  module _ (n : ℕ) (e : n ≡ numberAt (take (length log - s * pageSize) (drop (s * pageSize) log)) 1 lengthSize) where
     size : lengthAt log s ≡ n
     unfolding lengthAt
-    size = sym (e ∙ header 1 3 (omega arith))
+    size = sym (e ∙ header 1 lengthSize (omega arith))
 
-    pub short : n < 8 → refused 6 s ≡ entryAt log s
+    pub reads-short : n < idSize → short ≡ entryAt log s
     unfolding entryAt
-    short a = rw (size, lt-ltb n 8 a)
+    reads-short a = rw (size, lt-ltb n idSize a)
 
-    module _ (a : 8 ≤ n) (after : ℕ) (f : after ≡ s + pagesFor n) where
-      pub cut : pageCount log < after → refused 7 s ≡ entryAt log s
+    module _ (a : idSize ≤ n) (after : ℕ) (f : after ≡ s + pagesFor n)
+        (id : ℕ) (i : id ≡ numberAt (take (length log - s * pageSize) (drop (s * pageSize) log)) payloadStart idSize) where
+      named : idAt log s ≡ id
+      unfolding idAt
+      named = sym (i ∙ header payloadStart idSize (omega arith))
+
+      pub reads-cut : pageCount log < after → cut id ≡ entryAt log s
       unfolding entryAt
-      cut b = rw (size, le-ltb n 8 a, ← f, lt-ltb (pageCount log) after b)
+      reads-cut b = rw (size, named, le-ltb n idSize a, ← f, lt-ltb (pageCount log) after b)
 
-      pub reaches : after ≤ pageCount log → (id : ℕ) → id ≡ numberAt (take (length log - s * pageSize) (drop (s * pageSize) log)) 4 8 → whole id n after ≡ entryAt log s
-      unfolding entryAt idAt
-      reaches b id i = rw (size, le-ltb n 8 a, ← f, le-ltb (pageCount log) after b, i, header 4 8 (omega arith))
+      pub reads-whole : after ≤ pageCount log → (len : ℕ) → len ≡ n - idSize → whole id len after ≡ entryAt log s
+      unfolding entryAt
+      reads-whole b len l = rw (size, named, l, le-ltb n idSize a, ← f, le-ltb (pageCount log) after b)
 
 -- ---- a whole entry
 
 pub record IsWhole (log : List ℕ) (s id len after : ℕ) : Type 0 where
-  pub long : 8 ≤ len
+  pub long : idSize ≤ lengthAt log s
   pub within : after ≤ pageCount log
   pub id-is : id ≡ idAt log s
-  pub len-is : len ≡ lengthAt log s
-  pub after-is : after ≡ s + pagesFor len
+  pub len-is : len ≡ dataLengthAt log s
+  pub after-is : after ≡ afterAt log s
 
 pub is-whole : {log : List ℕ} {s id len after : ℕ} → entryAt log s ≡ whole id len after → IsWhole log s id len after
 unfolding entryAt
-is-whole {log} {s} {id} {len} {after} e = go (ltb n 8) (ltb (pageCount log) (s + pagesFor n)) refl refl e
+is-whole {log} {s} {id} {len} {after} e = go (ltb (lengthAt log s) idSize) (ltb (pageCount log) (afterAt log s)) refl refl e
   where
-    n : ℕ
-    n = lengthAt log s
-
-    go : (x y : Bool) → ltb n 8 ≡ x → ltb (pageCount log) (s + pagesFor n) ≡ y
-        → pick x (refused 6 s) (pick y (refused 7 s) (whole (idAt log s) n (s + pagesFor n))) ≡ whole id len after
+    go : (x y : Bool) → ltb (lengthAt log s) idSize ≡ x → ltb (pageCount log) (afterAt log s) ≡ y
+        → pick x short (pick y (cut (idAt log s)) (whole (idAt log s) (dataLengthAt log s) (afterAt log s))) ≡ whole id len after
         → IsWhole log s id len after
     go true y p q e = absurd (let z : _≡_ {A = ℕ} 0 1 = cc in omega arith)
     go false true p q e = absurd (let z : _≡_ {A = ℕ} 0 1 = cc in omega arith)
-    go false false p q e =
-        let l : len ≡ n = cc in
-        record {
-          long = omega (arith, ltb-false n 8 p);
-          within = (let a : after ≡ s + pagesFor n = cc in omega (arith, ltb-false (pageCount log) (s + pagesFor n) q));
-          id-is = cc;
-          len-is = l;
-          after-is = cc;
-        }
+    go false false p q e = record {
+      long = ltb-false (lengthAt log s) idSize p;
+      within = (let a : after ≡ afterAt log s = cc in omega (arith, ltb-false (pageCount log) (afterAt log s) q));
+      id-is = cc;
+      len-is = cc;
+      after-is = cc;
+    }
 
 -- a start whose length and pages are right is a whole entry
-pub whole-at : (log : List ℕ) (s : ℕ) → 8 ≤ lengthAt log s → afterAt log s ≤ pageCount log → entryAt log s ≡ whole (idAt log s) (lengthAt log s) (afterAt log s)
+pub whole-at : (log : List ℕ) (s : ℕ) → idSize ≤ lengthAt log s → afterAt log s ≤ pageCount log → entryAt log s ≡ whole (idAt log s) (dataLengthAt log s) (afterAt log s)
 unfolding entryAt
-whole-at log s l w = rw (le-ltb (lengthAt log s) 8 l, le-ltb (pageCount log) (afterAt log s) w)
+whole-at log s l w = rw (le-ltb (lengthAt log s) idSize l, le-ltb (pageCount log) (afterAt log s) w)
 
--- ---- a start that is refused
+-- its pages are those of its data
+pub after-data : (log : List ℕ) (s : ℕ) → idSize ≤ lengthAt log s → afterAt log s ≡ s + pagesForData (dataLengthAt log s)
+after-data log s l = let e : idSize + dataLengthAt log s ≡ lengthAt log s = omega arith in rw e
 
--- 6 or 7, and it names the page
-pub record IsTorn (s number value : ℕ) : Type 0 where
-  pub number-is : (number ≡ 6) ⊎ (number ≡ 7)
-  pub value-is : value ≡ s
-
-pub is-torn : (log : List ℕ) {s number value : ℕ} → entryAt log s ≡ refused number value → IsTorn s number value
-unfolding entryAt
-is-torn log {s} {number} {value} e = go (ltb n 8) (ltb (pageCount log) (s + pagesFor n)) e
-  where
-    n : ℕ
-    n = lengthAt log s
-
-    go : (x y : Bool) → pick x (refused 6 s) (pick y (refused 7 s) (whole (idAt log s) n (s + pagesFor n))) ≡ refused number value → IsTorn s number value
-    go true y e = record { number-is = inl (cc); value-is = cc }
-    go false true e = record { number-is = inr (cc); value-is = cc }
-    go false false e = absurd (let z : _≡_ {A = ℕ} 0 1 = cc in omega arith)
+-- an entry ends after the page at which it starts
+pub after-start : (log : List ℕ) (s : ℕ) → s < afterAt log s
+after-start log s = omega (arith, pages-some (lengthAt log s))

@@ -1,27 +1,27 @@
 -- What was written reads back: the marks, the length, the id and the data of an entry's pages. Assumes nothing.
-use mathlib.Core.Path.{_≡_, refl, sym, ap, _∙_}
+use mathlib.Core.Path.{_≡_, refl, ap, _∙_}
 use mathlib.Core.List.{List, [], _∷_, _++_, append-assoc}
-use Prim.Native.Nat.{ℕ, zero, suc, _+_, _-_, _*_, _/_, _%_, _^_, _<_, _≤_}
+use Prim.Native.Nat.{ℕ, zero, suc, _+_, _-_, _*_, _/_, _%_, _^_, _<_}
 use native.Mathlib.Nat.{mod-eq-of-lt}
 use native.Mathlib.Decide.{decLt}
 use native.Mathlib.Omega.{arith}
-use lib.Dec.{lit<}
-use lib.ListN.{length, getD, take, drop, length-append, length-take, length-drop, List·getD-append}
+use lib.ListN.{length, getD, take, drop, length-take, length-drop, List·getD-append}
 use lib.Seq.{getD-append-add, getD-drop, getD-take, take-at}
-use Rattle.page.specs.Size.{pageSize, laterPayload, pagesFor, pageAt, started}
-use Rattle.page.specs.Bytes.{numberAt, bytesOf}
+use Rattle.page.specs.Size.{pageSize, laterPayload, pageAt, started, firstData, dataEnd, dataStart, idSize, lengthSize, pagesForData, payloadStart}
+use Rattle.page.specs.Bytes.{bytesOf}
 use Rattle.page.specs.Mark.{markAt}
 use Rattle.page.specs.Entry.{lengthAt, idAt}
-use Rattle.page.specs.Data.{firstData, placeOf, dataOf, dataAt}
-use Rattle.page.specs.Write.{blank, overwritten, headOf, payloadOf, firstPage, laterPage, laterPages, laterImage, entryPages, entryImage}
+use Rattle.page.specs.Data.{placeOf, dataOf, dataAt}
+use Rattle.page.specs.Write.{blank, payloadOf, firstPage, laterPage, laterPages, laterImage, entryPages, entryImage}
 use Rattle.page.proofs.Listing.{tab-is}
 use Rattle.page.proofs.Counting.{pages-linear}
 use Rattle.page.proofs.Digits.{number-back, length-bytes}
 use Rattle.page.proofs.Placing.{place-first, place-later}
 use Rattle.page.proofs.Paging.{mark-byte}
 use Rattle.page.proofs.Heading.{length-head, first-is, length-first}
-use Rattle.page.proofs.Turning.{length-later, length-pages}
+use Rattle.page.proofs.Turning.{length-later}
 use Rattle.page.proofs.Joining.{pages-are, image-is}
+use Rattle.page.specs.Private.{headOf}
 
 -- ---- later pages
 
@@ -83,39 +83,39 @@ module _ (image : List ℕ) (id : ℕ) (d : List ℕ) (full : length image ≡ p
   unfolding markAt firstPage
   mark-first = rw page-zero
 
-  pub mark-later : (j : ℕ) → 0 < j → j < pagesFor (8 + length d) → markAt (entryPages image id d) j ≡ 0
+  pub mark-later : (j : ℕ) → 0 < j → j < pagesForData (length d) → markAt (entryPages image id d) j ≡ 0
   mark-later j some within =
       let n = length-first image id d full in
       let p : j * pageSize ≡ length first + (j - 1) * pageSize = omega arith in
       mark-byte (entryPages image id d) j ∙ rw (pages-are image id d, p) (getD-append-add first later ((j - 1) * pageSize) 0)
-      ∙ later-mark (started laterPayload (length d - firstData)) first (drop firstData d) (j - 1) n (omega (arith, pages-linear (8 + length d)))
+      ∙ later-mark (started laterPayload (length d - firstData)) first (drop firstData d) (j - 1) n (omega (arith, pages-linear (idSize + length d)))
 
-  pub length-first-page : length d < 16777208 → lengthAt (entryPages image id d) 0 ≡ 8 + length d
+  pub length-first-page : length d < dataEnd → lengthAt (entryPages image id d) 0 ≡ idSize + length d
   unfolding lengthAt
   length-first-page h =
-      let rest = bytesOf 8 id ++ (take firstData d ++ drop (length (headOf (8 + length d) id ++ take firstData d)) image) in
-      let e : first ≡ (1 ∷ []) ++ (bytesOf 3 (8 + length d) ++ rest) = first-is image id d ∙ simp append-assoc in
-      rw (page-zero, e) (number-back (1 ∷ []) 3 (8 + length d) rest ∙ mod-eq-of-lt (omega arith))
+      let rest = bytesOf idSize id ++ (take firstData d ++ drop (length (headOf (idSize + length d) id ++ take firstData d)) image) in
+      let e : first ≡ (1 ∷ []) ++ (bytesOf lengthSize (idSize + length d) ++ rest) = first-is image id d ∙ simp append-assoc in
+      rw (page-zero, e) (number-back (1 ∷ []) lengthSize (idSize + length d) rest ∙ mod-eq-of-lt (omega arith))
 
   pub id-first-page : id < 2 ^ 64 → idAt (entryPages image id d) 0 ≡ id
   unfolding idAt
   id-first-page h =
-      let rest = take firstData d ++ drop (length (headOf (8 + length d) id ++ take firstData d)) image in
-      let before : List ℕ = 1 ∷ bytesOf 3 (8 + length d) in
-      let four : length before ≡ 4 = ap suc (length-bytes 3 (8 + length d)) in
-      let e : first ≡ before ++ (bytesOf 8 id ++ rest) = first-is image id d ∙ simp append-assoc in
-      rw (page-zero, e, ← four) (number-back before 8 id rest ∙ mod-eq-of-lt h)
+      let rest = take firstData d ++ drop (length (headOf (idSize + length d) id ++ take firstData d)) image in
+      let before : List ℕ = 1 ∷ bytesOf lengthSize (idSize + length d) in
+      let until : length before ≡ payloadStart = ap suc (length-bytes lengthSize (idSize + length d)) in
+      let e : first ≡ before ++ (bytesOf idSize id ++ rest) = first-is image id d ∙ simp append-assoc in
+      rw (page-zero, e, ← until) (number-back before idSize id rest ∙ mod-eq-of-lt h)
 
   data-byte : (i : ℕ) → i < length d → getD (entryPages image id d) (placeOf i) 0 ≡ getD d i 0
   data-byte i h =
       let n = length-first image id d full in
       rw (pages-are image id d) (elim (decLt i firstData) [
         | yes a ↦
-            let head = headOf (8 + length d) id in
+            let head = headOf (idSize + length d) id in
             let after = drop (length (head ++ take firstData d)) image in
-            let twelve = length-head (8 + length d) id in
-            let p : 12 + i ≡ length head + i = omega arith in
-            rw (place-first i a) (List·getD-append first later 0 (12 + i) (omega arith)
+            let twelve = length-head (idSize + length d) id in
+            let p : dataStart + i ≡ length head + i = omega arith in
+            rw (place-first i a) (List·getD-append first later 0 (dataStart + i) (omega arith)
             ∙ rw (first-is image id d, append-assoc head (take firstData d) after, p) (getD-append-add head (take firstData d ++ after) i 0)
             ∙ List·getD-append (take firstData d) after 0 i (omega (arith, length-take firstData d)) ∙ getD-take firstData d i 0 a)
         | no b ↦

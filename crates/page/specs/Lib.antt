@@ -5,3 +5,4 @@ pub mod Mark
 pub mod Entry
 pub mod Data
 pub mod Write
+pub mod Private

@@ -2,7 +2,7 @@
 use Prim.Native.Nat.{ℕ, zero, suc, _-_}
 use mathlib.Core.List.{List, [], _∷_, _++_}
 use lib.ListN.{length, replicate, take, drop}
-use Rattle.page.specs.Size.{pageSize, firstPayload, laterPayload, pagesFor}
+use Rattle.page.specs.Size.{pageSize, firstPayload, laterPayload, lengthSize, idSize, pagesFor}
 use Rattle.page.specs.Bytes.{bytesOf}
 
 -- "one page image is all zeros when a push begins"
@@ -15,15 +15,11 @@ overwritten old new = new ++ drop (length new) old
 
 -- "The payload is the id, 8 bytes, high byte first, then the data"
 abbrev pub payloadOf : ℕ → List ℕ → List ℕ
-payloadOf id d = bytesOf 8 id ++ d
-
--- mark 1, "three bytes of payload length, high byte first", and the id that begins the payload: the first 12 bytes of an entry
-abbrev pub headOf : ℕ → ℕ → List ℕ
-headOf len id = 1 ∷ (bytesOf 3 len ++ bytesOf 8 id)
+payloadOf id d = bytesOf idSize id ++ d
 
 -- "each page overwrites only its mark, length and payload": an entry's first page
 unfoldable pub firstPage : List ℕ → List ℕ → List ℕ
-firstPage image payload = overwritten image (1 ∷ (bytesOf 3 (length payload) ++ take firstPayload payload))
+firstPage image payload = overwritten image (1 ∷ (bytesOf lengthSize (length payload) ++ take firstPayload payload))
 
 -- a later page, of the payload that is left
 unfoldable pub laterPage : List ℕ → List ℕ → List ℕ

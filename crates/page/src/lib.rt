@@ -5,7 +5,8 @@ mod marks;
 mod writing;
 
 ghost use mathlib.Core.Path.{_≡_};
-ghost use Rattle.page.specs.Size.{pagesFor};
+ghost use Prim.Native.Nat.{_<_};
+ghost use Rattle.page.specs.Size.{dataEnd, pagesFor, pagesForData, pageCount};
 ghost use Rattle.page.specs.Write.{blank};
 pub use copying::copy_data;
 pub use entry::Entry;
@@ -19,28 +20,55 @@ impl Page {
     pub const SIZE: usize = 1024;
 
     // Payload bytes on an entry's first page.
-    pub const FIRST: usize = 1020;
+    pub const FIRST_PAYLOAD: usize = 1020;
 
     // Payload bytes on each later page.
-    pub const LATER: usize = 1023;
+    pub const LATER_PAYLOAD: usize = 1023;
+
+    // Bytes of a payload's length, which come after the mark.
+    pub const LENGTH_SIZE: usize = 3;
 
     // Bytes of an id, which begins the payload.
-    pub const ID: usize = 8;
+    pub const ID_SIZE: usize = 8;
 
-    // Where the data begins on an entry's first page: after mark, length and id.
-    pub const DATA: usize = Self::SIZE - Self::FIRST + Self::ID;
+    // Where the payload begins on an entry's first page.
+    pub const PAYLOAD_START: usize = 1 + Self::LENGTH_SIZE;
+
+    // Where the data begins on an entry's first page.
+    pub const DATA_START: usize = Self::PAYLOAD_START + Self::ID_SIZE;
 
     // Data bytes on an entry's first page.
-    pub const FIRST_DATA: usize = Self::FIRST - Self::ID;
+    pub const FIRST_DATA: usize = Self::FIRST_PAYLOAD - Self::ID_SIZE;
+
+    // The first payload length that its bytes do not hold.
+    pub const PAYLOAD_END: usize = 0x100_0000;
+
+    // The data bytes of that payload.
+    pub const DATA_END: usize = Self::PAYLOAD_END - Self::ID_SIZE;
 
     // The pages of a payload of n bytes.
-    pub fn count(n: usize) -> usize
+    pub fn pages_for(n: usize) -> usize
         ensures { λ r. ⌜ r ≡ pagesFor n ⌝ }
     {
-        if n <= Self::FIRST {
+        if n <= Self::FIRST_PAYLOAD {
             return 1;
         }
-        2 + (n - Self::FIRST - 1) / Self::LATER
+        2 + (n - Self::FIRST_PAYLOAD - 1) / Self::LATER_PAYLOAD
+    }
+
+    // The pages of n data bytes.
+    pub fn pages_for_data(n: usize) -> usize
+        requires { ⌜ n < dataEnd ⌝ }
+        ensures { λ r. ⌜ r ≡ pagesForData n ⌝ }
+    {
+        Self::pages_for(Self::ID_SIZE + n)
+    }
+
+    // The whole pages of a log.
+    pub fn count(log: &[u8]) -> usize
+        ensures { λ r. ⌜ r ≡ pageCount (now (log .entry)) ⌝ }
+    {
+        log.len() / Self::SIZE
     }
 
     // The page image as a push begins.

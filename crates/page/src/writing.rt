@@ -1,10 +1,11 @@
 // The pages of an entry, each written over the image that the page before left.
 use crate::Page;
 ghost use mathlib.Core.Path.{_≡_};
-ghost use Prim.Native.Nat.{_+_, _-_, _*_, _<_, _≤_, min};
+ghost use Prim.Native.Nat.{_*_, _<_, _≤_, min};
 ghost use lib.ListN.{length};
-ghost use Rattle.page.specs.Size.{pageSize, laterPayload, pagesFor, started};
-ghost use Rattle.page.specs.Write.{overwritten, headOf, firstPage, laterPage, laterPages, laterImage, entryPages, entryImage, payloadOf};
+ghost use Rattle.page.specs.Size.{pageSize, laterPayload, dataEnd, pagesForData, started};
+ghost use Rattle.page.specs.Write.{overwritten, firstPage, laterPage, laterPages, laterImage, entryPages, entryImage, payloadOf};
+ghost use Rattle.page.specs.Private.{headOf};
 
 // Puts src over the front of dst.
 fn put(dst: &mut [u8], src: &[u8])
@@ -18,8 +19,8 @@ fn put(dst: &mut [u8], src: &[u8])
     }
 }
 
-// The first 12 bytes of an entry: its mark, the length of its payload and its id, high byte first.
-fn head(length: usize, id: u64) -> [u8; Page::DATA]
+// The bytes of an entry before its data: its mark, the length of its payload and its id, high byte first.
+fn head(length: usize, id: u64) -> [u8; Page::DATA_START]
     ensures { λ r. ⌜ r ≡ headOf length id ⌝ }
 {
     let id1 = id / 256;
@@ -54,14 +55,14 @@ fn least(a: usize, b: usize) -> usize
 
 // Writes an entry's first page, to the image and then to the front of `part`.
 fn write_first(part: &mut [u8], image: &mut [u8], id: u64, bytes: &[u8])
-    requires { ⌜ (pageSize ≤ length (now part)) × (length (now image) ≡ pageSize) × (length (now bytes) < 16777208) ⌝ }
+    requires { ⌜ (pageSize ≤ length (now part)) × (length (now image) ≡ pageSize) × (length (now bytes) < dataEnd) ⌝ }
     ensures { λ _. ⌜ now (image .exit) ≡ firstPage (now (image .entry)) (payloadOf id (now (bytes .entry))) ⌝ }
     ensures { λ _. ⌜ now (part .exit) ≡ overwritten (now (part .entry)) (now (image .exit)) ⌝ }
 {
-    let h = head(Page::ID + bytes.len(), id);
+    let h = head(Page::ID_SIZE + bytes.len(), id);
     let m = least(bytes.len(), Page::FIRST_DATA);
     put(image, &h);
-    put(&mut image[Page::DATA..], &bytes[..m]);
+    put(&mut image[Page::DATA_START..], &bytes[..m]);
     put(part, image);
 }
 
@@ -71,7 +72,7 @@ fn write_later(part: &mut [u8], image: &mut [u8], bytes: &[u8])
     ensures { λ _. ⌜ now (image .exit) ≡ laterPage (now (image .entry)) (now (bytes .entry)) ⌝ }
     ensures { λ _. ⌜ now (part .exit) ≡ overwritten (now (part .entry)) (now (image .exit)) ⌝ }
 {
-    let m = least(bytes.len(), Page::LATER);
+    let m = least(bytes.len(), Page::LATER_PAYLOAD);
     image[0] = 0;
     put(&mut image[1..], &bytes[..m]);
     put(part, image);
@@ -83,11 +84,11 @@ fn write_rest(part: &mut [u8], image: &mut [u8], bytes: &[u8])
     ensures { λ _. ⌜ now (image .exit) ≡ laterImage (started laterPayload (length (now (bytes .entry)))) (now (image .entry)) (now (bytes .entry)) ⌝ }
     ensures { λ _. ⌜ now (part .exit) ≡ overwritten (now (part .entry)) (laterPages (started laterPayload (length (now (bytes .entry)))) (now (image .entry)) (now (bytes .entry))) ⌝ }
 {
-    let k = (bytes.len() + (Page::LATER - 1)) / Page::LATER;
+    let k = (bytes.len() + (Page::LATER_PAYLOAD - 1)) / Page::LATER_PAYLOAD;
     let mut j = 0;
     while j < k {
         let at = j * Page::SIZE;
-        let from = j * Page::LATER;
+        let from = j * Page::LATER_PAYLOAD;
         write_later(&mut part[at..], image, &bytes[from..]);
         j += 1;
     }
@@ -95,7 +96,7 @@ fn write_rest(part: &mut [u8], image: &mut [u8], bytes: &[u8])
 
 // Writes an entry's pages to the front of `part`, each over the image of the one before.
 pub fn write_entry(part: &mut [u8], image: &mut [u8], id: u64, bytes: &[u8])
-    requires { ⌜ (pagesFor (8 + length (now bytes)) * pageSize ≤ length (now part)) × (length (now image) ≡ pageSize) × (length (now bytes) < 16777208) ⌝ }
+    requires { ⌜ (pagesForData (length (now bytes)) * pageSize ≤ length (now part)) × (length (now image) ≡ pageSize) × (length (now bytes) < dataEnd) ⌝ }
     ensures { λ _. ⌜ now (image .exit) ≡ entryImage (now (image .entry)) id (now (bytes .entry)) ⌝ }
     ensures { λ _. ⌜ now (part .exit) ≡ overwritten (now (part .entry)) (entryPages (now (image .entry)) id (now (bytes .entry))) ⌝ }
 {

@@ -1,30 +1,31 @@
 -- `copy_from` meets its contract. The invariant: `out` is the first i data bytes and then what it was, and `at` is where the byte before i ended. Assumes nothing.
-use mathlib.Core.Path.{_≡_, _∙_, ap}
+use mathlib.Core.Path.{_≡_, _∙_}
 use mathlib.Core.Logic.{⊎-elim}
 use mathlib.Core.List.{_++_}
-use Prim.Native.Nat.{ℕ, _+_, _-_, _/_, _%_, _≤_, _<_}
+use Prim.Native.Nat.{ℕ, _+_, _-_, _/_, _%_, _≤_}
 use native.Mathlib.Omega.{arith}
 use borrow.Author.Needs.{needs}
 use lib.ListN.{length, getD, drop, length-set}
-use Rattle.page.specs.Size.{pageSize, pagesFor}
-use Rattle.page.specs.Data.{dataFrom, placeOf}
+use Rattle.page.specs.Size.{pageSize, dataStart, firstData, laterPayload}
+use Rattle.page.specs.Data.{placeOf}
 use Rattle.page.proofs.Listing.{tab-store}
 use Rattle.page.proofs.Placing.{place-linear, place-within}
+use Rattle.page.specs.Private.{dataFrom}
 use Rattle.page.proofs.copying.copy_from.Statement.{statement}
 use Rattle.page.proofs.copying.copy_from.Tie as tie
 
 abbrev Inv-loop : tie.InvT-loop
-Inv-loop part n out₀ at₀ i₀ out at i = (i ≤ n) × (at ≡ i + (i + 10) / 1023) × (out ≡ dataFrom part i ++ drop i out₀) × (length out ≡ length out₀)
+Inv-loop part n out₀ at₀ i₀ out at i = (i ≤ n) × (at ≡ i + (i + (laterPayload - firstData - 1)) / laterPayload) × (out ≡ dataFrom part i ++ drop i out₀) × (length out ≡ length out₀)
 
 abbrev μ-loop : tie.MeasureT-loop
 μ-loop part n out₀ at₀ i₀ out at i = n - i
 
 -- no page begins at byte i
-stay : (at i : ℕ) → at ≡ i + (i + 10) / 1023 → (at % pageSize ≡ 1012 → ⊥) → at ≡ i + (i + 11) / 1023
+stay : (at i : ℕ) → at ≡ i + (i + (laterPayload - firstData - 1)) / laterPayload → (at % pageSize ≡ firstData → ⊥) → at ≡ i + (i + (laterPayload - firstData)) / laterPayload
 stay at i e h = omega arith
 
 -- past the mark of a page, if one begins here
-skipped : (c : tie.Joined1 Inv-loop μ-loop) → c .if1 .at ≡ placeOf (c .before .before .loop .i) - 12
+skipped : (c : tie.Joined1 Inv-loop μ-loop) → c .if1 .at ≡ placeOf (c .before .before .loop .i) - dataStart
 skipped c =
     let linear = place-linear (c .before .before .loop .i) in
     ⊎-elim (λ w. omega arith) (λ w. w .1 ∙ stay _ _ (c .before .before .loop .inv .1) (λ e. w .0 .left (omega arith)) ∙ omega arith) (c .if1 .came)
@@ -64,7 +65,7 @@ loop-again c =
     let a = at-loop .before .args in (
       omega arith,
       omega (arith, skipped (c .before .before), place-linear (at-loop .loop .i)),
-      rw (at-loop .loop .inv .2, skipped (c .before .before)) (tab-store (λ i. getD (a .part .now) (placeOf i - 12) 0) (at-loop .loop .i) (a .out .now) (omega arith)),
+      rw (at-loop .loop .inv .2, skipped (c .before .before)) (tab-store (λ i. getD (a .part .now) (placeOf i - dataStart) 0) (at-loop .loop .i) (a .out .now) (omega arith)),
       simp length-set (omega arith),
     )
 

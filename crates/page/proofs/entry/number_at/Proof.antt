@@ -1,5 +1,5 @@
 -- `number_at` meets its contract. The invariant: n is the number of the i bytes read. Assumes nothing.
-use mathlib.Core.Path.{_≡_, refl, ap, _∙_}
+use mathlib.Core.Path.{_≡_, refl}
 use Prim.Native.Nat.{ℕ, _+_, _-_, _*_, _^_, _<_, _≤_}
 use native.Mathlib.Nat.{pow-le-pow-right, pow-suc}
 use native.Mathlib.Numerals.{add-one}
@@ -7,9 +7,9 @@ use native.Mathlib.Omega.{arith}
 use borrow.Author.Needs.{needs}
 use lib.Arith.{digits-lt}
 use lib.Dec.{lit<}
-use lib.ListN.{length}
 use Rattle.page.specs.Bytes.{numberAt}
 use Rattle.page.proofs.Digits.{number-next}
+use Rattle.page.specs.Size.{idSize}
 use Rattle.page.proofs.entry.number_at.Statement.{statement}
 use Rattle.page.proofs.entry.number_at.Tie as tie
 
@@ -23,9 +23,9 @@ abbrev μ-loop : tie.MeasureT-loop
 grows : (n b i : ℕ) → n < 256 ^ i → b < 256 → n * 256 + b < 256 ^ (i + 1)
 grows n b i h g = rw (add-one i, pow-suc 256 i) (digits-lt {q = n} {m = 256 ^ i} {r = b} {c = 256} h g)
 
-fits : (n b i : ℕ) → n < 256 ^ i → b < 256 → i < 8 → n * 256 + b < 2 ^ 64
+fits : (n b i : ℕ) → n < 256 ^ i → b < 256 → i < idSize → n * 256 + b < 2 ^ 64
 fits n b i h g e =
-    let top : 256 ^ (i + 1) ≤ 2 ^ 64 = pow-le-pow-right {n = 256} (lit< tt) {i = i + 1} {j = 8} (omega arith) in
+    let top : 256 ^ (i + 1) ≤ 2 ^ 64 = pow-le-pow-right {n = 256} (lit< tt) {i = i + 1} {j = idSize} (omega arith) in
     omega (arith, grows n b i h g)
 
 loop-holds : tie.Need-loop-holds Inv-loop μ-loop

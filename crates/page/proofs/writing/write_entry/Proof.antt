@@ -2,23 +2,24 @@
 use Prim.Native.Nat.{_+_}
 use native.Mathlib.Omega.{arith}
 use borrow.Author.Needs.{needs}
-use lib.ListN.{length, length-drop, length-take}
+use lib.ListN.{length, length-drop}
 use Rattle.page.proofs.Counting.{pages-some, pages-linear}
 use Rattle.page.proofs.Parting.{rest-of}
 use Rattle.page.proofs.Joining.{one-page, more-pages}
+use Rattle.page.specs.Size.{idSize}
 use Rattle.page.proofs.writing.write_entry.Statement.{statement}
 use Rattle.page.proofs.writing.write_entry.Tie as tie
 
 write-first-requires : tie.Need-write-first-requires
 write-first-requires c κs =
-    let some = pages-some (8 + length (c .before .before .before .before .before .args .bytes .now)) in
+    let some = pages-some (idSize + length (c .before .before .before .before .before .args .bytes .now)) in
     search needs
 
 sub-write-rest : tie.Need-sub-write-rest
-sub-write-rest c = omega (arith, pages-some (8 + length (c .before .before .before .before .before .before .before .before .before .before .before .args .bytes .now)))
+sub-write-rest c = omega (arith, pages-some (idSize + length (c .before .before .before .before .before .before .before .before .before .before .before .args .bytes .now)))
 
 part-write-rest-start : tie.Need-part-write-rest-start
-part-write-rest-start c = omega (arith, pages-some (8 + length (c .before .before .before .before .before .before .before .before .before .before .before .args .bytes .now)))
+part-write-rest-start c = omega (arith, pages-some (idSize + length (c .before .before .before .before .before .before .before .before .before .before .before .args .bytes .now)))
 
 part-write-rest-end : tie.Need-part-write-rest-end
 part-write-rest-end c = search needs
@@ -35,7 +36,7 @@ part-write-rest-end-2 c = search needs
 write-rest-requires : tie.Need-write-rest-requires
 write-rest-requires c κs =
     let start = c .before .before .before .before .before .before .before .before .before .before .before .before .before .before in
-    simp (rest-of, length-drop) (omega (arith, pages-linear (8 + length (start .args .bytes .now))))
+    simp (rest-of, length-drop) (omega (arith, pages-linear (idSize + length (start .args .bytes .now))))
 
 same-length : tie.Need-same-length
 same-length c = search needs

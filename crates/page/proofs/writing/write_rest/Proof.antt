@@ -4,12 +4,12 @@ use Prim.Native.Nat.{_-_}
 use native.Mathlib.Omega.{arith}
 use lib.ListN.{length-drop}
 use Rattle.page.proofs.Parting.{rest-of}
-use Rattle.page.proofs.Turning.{Head, begin, turn, done}
+use Rattle.page.proofs.Turning.{LaterLoop, later-begins, later-turns, later-ends}
 use Rattle.page.proofs.writing.write_rest.Statement.{statement}
 use Rattle.page.proofs.writing.write_rest.Tie as tie
 
 abbrev Inv-loop : tie.InvT-loop
-Inv-loop part₀ image₀ bytes k j₀ part image j = Head part₀ image₀ bytes k part image j
+Inv-loop part₀ image₀ bytes k j₀ part image j = LaterLoop part₀ image₀ bytes k part image j
 
 abbrev μ-loop : tie.MeasureT-loop
 μ-loop part₀ image₀ bytes k j₀ part image j = k - j
@@ -21,7 +21,7 @@ add-k : tie.Need-add-k Inv-loop μ-loop
 add-k c = omega arith
 
 loop-holds : tie.Need-loop-holds Inv-loop μ-loop
-loop-holds c = begin _ _ _ _ (c .before .before .before .pre .1) (c .before .before .before .pre .0)
+loop-holds c = later-begins _ _ _ _ (c .before .before .before .pre .1) (c .before .before .before .pre .0)
 
 mul-at : tie.Need-mul-at Inv-loop μ-loop
 mul-at c = omega arith
@@ -60,7 +60,7 @@ loop-again : tie.Need-loop-again Inv-loop μ-loop
 loop-again c =
     let at-call = c .before .before .before .before in
     let in-loop = at-call .before .before .before .before in
-    turn _ _ _ _ _ _ _ (in-loop .before .loop .inv) _ _ _ (in-loop .loop-test .taken) (at-call .write-later .ensures .0) (at-call .write-later .ensures .1) refl
+    later-turns _ _ _ _ _ _ _ (in-loop .before .loop .inv) _ _ _ (in-loop .loop-test .taken) (at-call .write-later .ensures .0) (at-call .write-later .ensures .1) refl
 
 same-length : tie.Need-same-length Inv-loop μ-loop
 same-length c = omega arith
@@ -69,7 +69,7 @@ same-length-2 : tie.Need-same-length-2 Inv-loop μ-loop
 same-length-2 c = omega arith
 
 returns : tie.Need-returns Inv-loop μ-loop
-returns c = done _ _ _ _ _ _ _ (c .before .loop .inv) (c .loop-test .left)
+returns c = later-ends _ _ _ _ _ _ _ (c .before .loop .inv) (c .loop-test .left)
 
 pub write-rest-spec : {M : Type 1} → statement M
 write-rest-spec =

@@ -1,10 +1,10 @@
--- `Entry::read` meets its contract. Assumes nothing.
-use mathlib.Core.Path.{_≡_, ap}
+-- `Entry::read` meets its contract: each return is one case of `Starting`. Assumes nothing.
+use mathlib.Core.Path.{ap}
 use Prim.Native.Nat.{ℕ, _+_}
 use native.Mathlib.Omega.{arith}
 use borrow.Author.Needs.{needs}
 use Rattle.page.proofs.Counting.{pages-linear}
-use Rattle.page.proofs.Starting.{short, cut, reaches}
+use Rattle.page.proofs.Starting.{reads-short, reads-cut, reads-whole}
 use Rattle.page.proofs.entry.Entry.read.Statement.{statement}
 use Rattle.page.proofs.entry.Entry.read.Tie as tie
 
@@ -24,23 +24,28 @@ read-requires : tie.Need-read-requires
 read-requires c κs = search needs
 
 returns : tie.Need-returns
-returns c = short _ _ _ (c .before .read .ensures .0) (omega arith)
+returns c = reads-short _ _ _ (c .before .read .ensures .0) (omega arith)
 
-count-requires : tie.Need-count-requires
-count-requires c κs = search needs
+pages-for-requires : tie.Need-pages-for-requires
+pages-for-requires c κs = search needs
 
 add-after : tie.Need-add-after
 add-after c = omega (arith, pages-linear (c .before .before .read .result .length))
 
+count-requires : tie.Need-count-requires
+count-requires c κs = search needs
+
 returns-2 : tie.Need-returns-2
 returns-2 c =
-    let at-read = c .before .before .before in
-    cut _ _ _ (at-read .read .ensures .0) (omega arith) _ (ap (λ (k : ℕ). at-read .before .before .before .args .s + k) (c .before .count .ensures)) (omega arith)
+    let at-pages = c .before .before in
+    let at-read = at-pages .before .before in
+    reads-cut _ _ _ (at-read .read .ensures .0) (omega arith) _ (ap (λ (k : ℕ). at-read .before .before .before .args .s + k) (at-pages .pages-for .ensures)) _ (at-read .read .ensures .1) (omega arith)
 
 returns-3 : tie.Need-returns-3
 returns-3 c =
-    let at-read = c .before .before .before in
-    reaches _ _ _ (at-read .read .ensures .0) (omega arith) _ (ap (λ (k : ℕ). at-read .before .before .before .args .s + k) (c .before .count .ensures)) (omega arith) _ (at-read .read .ensures .1)
+    let at-pages = c .before .before in
+    let at-read = at-pages .before .before in
+    reads-whole _ _ _ (at-read .read .ensures .0) (omega arith) _ (ap (λ (k : ℕ). at-read .before .before .before .args .s + k) (at-pages .pages-for .ensures)) _ (at-read .read .ensures .1) (omega arith) _ (omega arith)
 
 pub read-spec : {M : Type 1} → statement M
 read-spec =
@@ -52,7 +57,8 @@ read-spec =
     part-read-end
     read-requires
     returns
-    count-requires
+    pages-for-requires
     add-after
+    count-requires
     returns-2
     returns-3)

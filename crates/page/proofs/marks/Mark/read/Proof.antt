@@ -1,11 +1,6 @@
 -- `Mark::read` meets its contract: each return rewrites with the tests that led there. Assumes nothing.
-use mathlib.Core.Path.{_≡_, sym, ap, _∙_}
-use Prim.Native.Nat.{ℕ}
-use mathlib.Core.List.{List}
-use native.Mathlib.Omega.{arith}
 use borrow.Author.Needs.{needs}
 use borrow.Author.Tests.{eq-eqb, ne-eqb}
-use Rattle.page.specs.Mark.{markAt, markOf}
 use Rattle.page.proofs.Paging.{mark-byte}
 use Rattle.page.proofs.marks.Mark.read.Statement.{statement}
 use Rattle.page.proofs.marks.Mark.read.Tie as tie

@@ -1,9 +1,9 @@
--- `Page::count` meets its contract: the rule in one division. Assumes nothing.
+-- `Page::pages_for` meets its contract: the rule in one division. Assumes nothing.
 use native.Mathlib.Omega.{arith}
 use borrow.Author.Needs.{needs}
 use Rattle.page.proofs.Counting.{pages-linear}
-use Rattle.page.proofs.Page.count.Statement.{statement}
-use Rattle.page.proofs.Page.count.Tie as tie
+use Rattle.page.proofs.Page.pages_for.Statement.{statement}
+use Rattle.page.proofs.Page.pages_for.Tie as tie
 
 returns : tie.Need-returns
 returns c = omega (arith, pages-linear (c .before .args .n))
@@ -20,5 +20,5 @@ add-result c = search needs
 returns-2 : tie.Need-returns-2
 returns-2 c = omega (arith, pages-linear (c .before .args .n))
 
-pub count-spec : {M : Type 1} → statement M
-count-spec = tie.close (tie.spec returns sub-result sub-result-2 add-result returns-2)
+pub pages-for-spec : {M : Type 1} → statement M
+pages-for-spec = tie.close (tie.spec returns sub-result sub-result-2 add-result returns-2)
