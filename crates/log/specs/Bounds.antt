@@ -1,5 +1,6 @@
 -- 01, "Refusal numbers", 1: which stores, lengths and cursors are good.
-use Prim.Native.Nat.{ℕ, _%_, _^_}
+use Prim.Native.Nat.{ℕ, _%_, _≤_, _^_}
+use mathlib.Core.Path.{_≡_}
 use mathlib.Core.Bool.{Bool, not, _||_}
 use mathlib.Core.List.{List}
 use lib.Dec.{ltb, eqb}
@@ -17,3 +18,13 @@ badState store n = tooLong store n || not (eqb (n % pageSize) 0)
 -- "or a scan cursor not at a page boundary or above length"
 unfoldable pub badCursor : ℕ → ℕ → Bool
 badCursor n cursor = ltb n cursor || not (eqb (cursor % pageSize) 0)
+
+-- where recovery and the sound check do not refuse 1
+pub record Fits (store : List ℕ) (n : ℕ) : Type 0 where
+  pub small : length store ≤ 2 ^ 31
+  pub inside : n ≤ length store
+
+-- and where no other call does
+pub record Good (store : List ℕ) (n : ℕ) : Type 0 where
+  pub fits : Fits store n
+  pub whole : n % pageSize ≡ 0

@@ -1,5 +1,5 @@
 -- 01, "Sound check", step by step.
-use Prim.Native.Nat.{ℕ, zero, suc, _+_, _-_, _%_, _≤_, _^_}
+use Prim.Native.Nat.{ℕ, zero, suc, _+_, _-_, _%_}
 use mathlib.Core.List.{List}
 use lib.Dec.{ltb, leb, eqb}
 use lib.ListN.{length, take}
@@ -7,13 +7,11 @@ use Rattle.refusal.specs.Pick.{pick}
 use Rattle.refusal.specs.Refusal.{numberOf, valueOf}
 use Rattle.page.specs.Size.{pageSize, pageCount}
 use Rattle.page.specs.Mark.{markAt, byMark}
-use Rattle.page.specs.Entry.{Starting, whole, refused as torn, entryAt}
+use Rattle.page.specs.Entry.{Starting, short, cut, whole, entryAt}
+use Rattle.log.specs.Round.{Round, stop, again, follow}
 use Rattle.log.specs.Bounds.{tooLong}
-use Rattle.log.specs.Sound.{Sound as SoundLog}
 use Rattle.log.specs.declared.checking.Checked.{Checked}
 use Rattle.log.specs.declared.checking.Checked.the-variants.{Sound, Refused}
-use Rattle.log.specs.declared.checking.Turn.{Turn}
-use Rattle.log.specs.declared.checking.Turn.the-variants.{On, Fault}
 
 -- what the sound check answers: sound, or a refusal
 pub data Checking : Type 0 where
@@ -25,52 +23,46 @@ abbrev pub paperChecked : Checked → Checking
 paperChecked Sound = sound
 paperChecked (Refused r) = refused (numberOf r) (valueOf r)
 
--- what a page says, with the later pages of the entry that it starts: the page to go on at and the last id before that page, or a fault
-pub data Turning : Type 0 where
-  on : (page last : ℕ) → Turning
-  fault : (number value : ℕ) → Turning
+-- where the check goes on: at a page, with the last id before it
+pub record Checkpoint : Type 0 where
+  pub page : ℕ
+  pub last : ℕ
 
-abbrev pub paperTurn : Turn → Turning
-paperTurn (On page last) = on page last
-paperTurn (Fault r) = fault (numberOf r) (valueOf r)
+abbrev pub checkpoint : ℕ → ℕ → Checkpoint
+checkpoint page last = record { page = page; last = last }
 
 -- "then each later page of the entry: 14 for mark 1, 5 for another": k pages from page p on, of the entry with that id
-unfoldable pub laterPages : List ℕ → ℕ → ℕ → ℕ → Turning
-laterPages log id zero p = on p id
-laterPages log id (suc k) p = byMark (markAt log p) (fault 14 p) (laterPages log id k (p + 1)) (fault 5 p)
+unfoldable pub laterMarks : List ℕ → ℕ → ℕ → ℕ → Round Checking Checkpoint
+laterMarks log id zero p = again (checkpoint p id)
+laterMarks log id (suc k) p = byMark (markAt log p) (stop (refused 14 p)) (laterMarks log id k (p + 1)) (stop (refused 5 p))
 
 -- "6, 7, 15, then each later page": at a start on page p, where the ids before it end with `last`
-unfoldable pub atStart : List ℕ → ℕ → ℕ → Starting → Turning
-atStart log p last (torn number value) = fault number value
-atStart log p last (whole id len after) = pick (leb id last) (fault 15 p) (laterPages log id (after - (p + 1)) (p + 1))
+unfoldable pub checkStart : List ℕ → ℕ → ℕ → Starting → Round Checking Checkpoint
+checkStart log p last short = stop (refused 6 p)
+checkStart log p last (cut id) = stop (refused 7 p)
+checkStart log p last (whole id len after) = pick (leb id last) (stop (refused 15 p)) (laterMarks log id (after - (p + 1)) (p + 1))
 
 -- "Page by page: mark (5; 8 if page 0 has mark 0)"
-unfoldable pub atPage : List ℕ → ℕ → ℕ → Turning
-atPage log p last =
+unfoldable pub checkPage : List ℕ → ℕ → ℕ → Round Checking Checkpoint
+checkPage log p last =
     byMark (markAt log p)
-    (atStart log p last (entryAt log p))
-    (pick (eqb p 0) (fault 8 0) (on (p + 1) last))
-    (fault 5 p)
+    (checkStart log p last (entryAt log p))
+    (pick (eqb p 0) (stop (refused 8 0)) (again (checkpoint (p + 1) last)))
+    (stop (refused 5 p))
 
 -- "an excess being answered 7 at the part page after all whole pages pass"
-unfoldable pub atEnd : List ℕ → Checking
-atEnd log = pick (eqb (length log % pageSize) 0) sound (refused 7 (pageCount log))
+unfoldable pub checkEnd : List ℕ → Checking
+checkEnd log = pick (eqb (length log % pageSize) 0) sound (refused 7 (pageCount log))
 
-abbrev pub onward : (ℕ → ℕ → Checking) → Turning → Checking
-onward f (on page last) = f page last
-onward f (fault number value) = refused number value
+-- the pages from a checkpoint on: each round passes a page at least, so that there are no more rounds than pages
+unfoldable pub checkFrom : List ℕ → ℕ → Checkpoint → Checking
+checkFrom log zero at = checkEnd log
+checkFrom log (suc k) at = pick (ltb (at .page) (pageCount log)) (follow (checkFrom log k) (checkPage log (at .page) (at .last))) (checkEnd log)
 
--- the pages from page p on: each turn passes a page at least, so that there are no more turns than pages
-unfoldable pub checkFrom : List ℕ → ℕ → ℕ → ℕ → Checking
-checkFrom log zero p last = atEnd log
-checkFrom log (suc k) p last = pick (ltb p (pageCount log)) (onward (checkFrom log k) (atPage log p last)) (atEnd log)
+-- every page, no id before the first
+abbrev pub checkLog : List ℕ → Checking
+checkLog log = checkFrom log (pageCount log) (checkpoint 0 0)
 
 -- "Refusal 1 as in recovery"
 unfoldable pub checkOf : List ℕ → ℕ → Checking
-checkOf store n = pick (tooLong store n) (refused 1 0) (checkFrom (take n store) (pageCount (take n store)) 0 0)
-
--- what the answer sound says: refusal 1 is not given, and the log is sound
-pub record SoundStore (store : List ℕ) (n : ℕ) : Type 0 where
-  pub small : length store ≤ 2 ^ 31
-  pub inside : n ≤ length store
-  pub sound-log : SoundLog (take n store)
+checkOf store n = pick (tooLong store n) (refused 1 0) (checkLog (take n store))

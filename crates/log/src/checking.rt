@@ -8,95 +8,97 @@ ghost use mathlib.Core.Path.{_≡_};
 ghost use Prim.Native.Nat.{_-_, _<_, _≤_};
 ghost use Rattle.page.specs.Size.{pageCount};
 ghost use Rattle.page.specs.Entry.{entryAt};
-ghost use Rattle.log.specs.Check.{paperChecked, paperTurn, laterPages, atStart, atPage, checkFrom, checkOf};
+ghost use Rattle.log.specs.Check.{paperChecked, laterMarks, checkStart, checkPage, checkLog, checkOf};
+ghost use Rattle.log.specs.Private.{paperPassed};
 
 pub enum Checked {
     Sound,
     Refused(Refusal),
 }
 
-// What a page says: where to go on and the last id before that page, or a fault.
-enum Turn {
+// What a page that was read says: where to go on and the last id before that page, or a fault.
+enum Passed {
     On { page: usize, last: u64 },
     Fault(Refusal),
 }
 
-// The later pages of the entry with this id, from page `from` to the page after it.
-fn later_pages(log: &[u8], id: u64, from: usize, after: usize) -> Turn
+// The marks of the later pages of the entry with this id, from page `from` to the page after it.
+fn later_marks(log: &[u8], id: u64, from: usize, after: usize) -> Passed
     requires { ⌜ (from ≤ after) × (after ≤ pageCount (now log)) ⌝ }
-    ensures { λ r. ⌜ paperTurn r ≡ laterPages (now (log .entry)) id (after - from) from ⌝ }
+    ensures { λ r. ⌜ paperPassed r ≡ laterMarks (now (log .entry)) id (after - from) from ⌝ }
 {
     let mut p = from;
     while p < after {
         let mark = Mark::read(log, p);
         match mark {
             Mark::Start => {
-                return Turn::Fault(Refusal::Overlap { page: p as u64 });
+                return Passed::Fault(Refusal::Overlap { page: p as u64 });
             }
             Mark::Bad => {
-                return Turn::Fault(Refusal::BadMark { page: p as u64 });
+                return Passed::Fault(Refusal::BadMark { page: p as u64 });
             }
             Mark::Later => {
                 p += 1;
             }
         }
     }
-    Turn::On { page: p, last: id }
+    Passed::On { page: p, last: id }
 }
 
 // A page with mark 1 that is no later page of an entry.
-fn at_start(log: &[u8], p: usize, last: u64) -> Turn
+fn check_start(log: &[u8], p: usize, last: u64) -> Passed
     requires { ⌜ p < pageCount (now log) ⌝ }
-    ensures { λ r. ⌜ paperTurn r ≡ atStart (now (log .entry)) p last (entryAt (now (log .entry)) p) ⌝ }
+    ensures { λ r. ⌜ paperPassed r ≡ checkStart (now (log .entry)) p last (entryAt (now (log .entry)) p) ⌝ }
 {
     let entry = Entry::read(log, p);
     match entry {
-        Entry::Refused(r) => Turn::Fault(r),
+        Entry::Short => Passed::Fault(Refusal::ShortEntry { page: p as u64 }),
+        Entry::Cut { id: _ } => Passed::Fault(Refusal::CutEntry { page: p as u64 }),
         Entry::Whole {
             id,
             length: _,
             after,
         } => {
             if id <= last {
-                return Turn::Fault(Refusal::NotAscending { page: p as u64 });
+                return Passed::Fault(Refusal::NotAscending { page: p as u64 });
             }
-            later_pages(log, id, p + 1, after)
+            later_marks(log, id, p + 1, after)
         }
     }
 }
 
 // A page that is no later page of an entry.
-fn at_page(log: &[u8], p: usize, last: u64) -> Turn
+fn check_page(log: &[u8], p: usize, last: u64) -> Passed
     requires { ⌜ p < pageCount (now log) ⌝ }
-    ensures { λ r. ⌜ paperTurn r ≡ atPage (now (log .entry)) p last ⌝ }
+    ensures { λ r. ⌜ paperPassed r ≡ checkPage (now (log .entry)) p last ⌝ }
 {
     let mark = Mark::read(log, p);
     match mark {
-        Mark::Start => at_start(log, p, last),
-        Mark::Bad => Turn::Fault(Refusal::BadMark { page: p as u64 }),
+        Mark::Start => check_start(log, p, last),
+        Mark::Bad => Passed::Fault(Refusal::BadMark { page: p as u64 }),
         Mark::Later => {
             if p == 0 {
-                return Turn::Fault(Refusal::NoEntries { page: 0 });
+                return Passed::Fault(Refusal::NoEntries { page: 0 });
             }
-            Turn::On { page: p + 1, last }
+            Passed::On { page: p + 1, last }
         }
     }
 }
 
 // Every whole page, then the excess.
 fn check_pages(log: &[u8]) -> Checked
-    ensures { λ r. ⌜ paperChecked r ≡ checkFrom (now (log .entry)) (pageCount (now (log .entry))) 0 0 ⌝ }
+    ensures { λ r. ⌜ paperChecked r ≡ checkLog (now (log .entry)) ⌝ }
 {
-    let count = log.len() / Page::SIZE;
+    let count = Page::count(log);
     let mut p = 0;
     let mut last = 0;
     while p < count {
-        let turn = at_page(log, p, last);
-        match turn {
-            Turn::Fault(r) => {
+        let passed = check_page(log, p, last);
+        match passed {
+            Passed::Fault(r) => {
                 return Checked::Refused(r);
             }
-            Turn::On { page, last: id } => {
+            Passed::On { page, last: id } => {
                 p = page;
                 last = id;
             }

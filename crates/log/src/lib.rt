@@ -1,25 +1,16 @@
-// The catalog log of document 01 over page's promises: the state, the sound check, recovery, the lookup, the scan and the push.
+// The catalog log of document 01 over page's promises: the state, refusal 1, the sound check, recovery and the lookup.
 mod bounds;
 mod checking;
-mod pushing;
 mod recovery;
-mod scanning;
 mod searching;
 mod state;
 
+pub use bounds::is_bad_cursor;
+pub use bounds::is_bad_state;
 pub use checking::Checked;
 pub use checking::check;
-pub use pushing::Pushed;
-pub use pushing::Reason;
-pub use pushing::push;
 pub use recovery::Recovered;
 pub use recovery::recover;
-pub use scanning::End;
-pub use scanning::Range;
-pub use scanning::Started;
-pub use scanning::Stepped;
-pub use scanning::scan;
-pub use scanning::step;
 pub use searching::Look;
 pub use searching::find;
 pub use searching::lookup;

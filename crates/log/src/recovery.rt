@@ -1,6 +1,6 @@
 // Recovery: the state of a log, from its last entry.
-use crate::State;
 use crate::bounds;
+use crate::state::State;
 use page::Entry;
 use page::Mark;
 use page::Page;
@@ -10,7 +10,7 @@ ghost use Prim.Native.Nat.{_-_, _<_};
 ghost use lib.ListN.{length};
 ghost use Rattle.page.specs.Size.{pageCount};
 ghost use Rattle.page.specs.Entry.{entryAt};
-ghost use Rattle.log.specs.Recover.{paperRecovered, atLast, walkBack, recoverOf};
+ghost use Rattle.log.specs.Recovery.{paperRecovered, atLast, walkBack, recoverOf};
 
 // The state and the size of the excess that was cut off, or a refusal.
 pub enum Recovered {
@@ -21,11 +21,12 @@ pub enum Recovered {
 // What the start at page s, the last one, says of the state.
 fn at_last(log: &[u8], s: usize, excess: u64) -> Recovered
     requires { ⌜ s < pageCount (now log) ⌝ }
-    ensures { λ r. ⌜ paperRecovered r ≡ atLast (length (now (log .entry))) excess (entryAt (now (log .entry)) s) ⌝ }
+    ensures { λ r. ⌜ paperRecovered r ≡ atLast (length (now (log .entry))) excess s (entryAt (now (log .entry)) s) ⌝ }
 {
     let entry = Entry::read(log, s);
     match entry {
-        Entry::Refused(r) => Recovered::Refused(r),
+        Entry::Short => Recovered::Refused(Refusal::ShortEntry { page: s as u64 }),
+        Entry::Cut { id: _ } => Recovered::Refused(Refusal::CutEntry { page: s as u64 }),
         Entry::Whole {
             id,
             length: _,
@@ -47,7 +48,7 @@ fn walk_back(log: &[u8], excess: u64) -> Recovered
     requires { ⌜ 0 < pageCount (now log) ⌝ }
     ensures { λ r. ⌜ paperRecovered r ≡ walkBack (now (log .entry)) excess (pageCount (now (log .entry)) - 1) ⌝ }
 {
-    let mut p = log.len() / Page::SIZE - 1;
+    let mut p = Page::count(log) - 1;
     loop {
         let mark = Mark::read(log, p);
         match mark {

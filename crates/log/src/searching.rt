@@ -9,9 +9,11 @@ ghost use mathlib.Core.Path.{_≡_};
 ghost use Prim.Native.Nat.{_≤_, _<_, _^_};
 ghost use lib.ListN.{length};
 ghost use Rattle.page.specs.Size.{pageCount};
+ghost use Rattle.page.specs.Entry.{entryAt};
 ghost use Rattle.log.specs.Guess.{offsetOf};
-ghost use Rattle.log.specs.Lookup.{searchOf, findOf, looked, lookupOf, paperLook};
-ghost use Rattle.log.specs.Turns.{Says};
+ghost use Rattle.log.specs.Output.{withOutput};
+ghost use Rattle.log.specs.Lookup.{compared, sayingAt, searchOf, findOf, lookupOf, paperLook};
+ghost use Rattle.log.specs.Private.{paperSays};
 
 // Found with its data length, absent where it would stand, or a refusal.
 pub enum Look {
@@ -20,8 +22,8 @@ pub enum Look {
     Refused(Refusal),
 }
 
-// What a page says to the walk back: the search ends, its entry lies below or above the id, or it is no start.
-enum Turn {
+// What a page says to the walk back: the search ends, its entry lies below or above the id, or none starts there.
+enum Says {
     End(Look),
     Below { id: u64, after: usize },
     Above { id: u64 },
@@ -41,37 +43,44 @@ fn offset(x: u64, y: u64, w: usize) -> usize
     if guess < last { guess as usize } else { w - 1 }
 }
 
-// What page s says to a walk back that looks for an id.
-fn turn_at(log: &[u8], s: usize, id: u64) -> Turn
+// At a start: 6, 7, then its id is compared with the one looked for.
+fn compare(log: &[u8], s: usize, id: u64) -> Says
     requires { ⌜ (s < pageCount (now log)) × (length (now log) ≤ 2 ^ 31) ⌝ }
-    ensures { λ r. ⌜ Says (now (log .entry)) id s r ⌝ }
+    ensures { λ r. ⌜ paperSays r ≡ compared id s (entryAt (now (log .entry)) s) ⌝ }
+{
+    let entry = Entry::read(log, s);
+    match entry {
+        Entry::Short => Says::End(Look::Refused(Refusal::ShortEntry { page: s as u64 })),
+        Entry::Cut { id: _ } => Says::End(Look::Refused(Refusal::CutEntry { page: s as u64 })),
+        Entry::Whole {
+            id: stored,
+            length,
+            after,
+        } => {
+            if stored == id {
+                return Says::End(Look::Found {
+                    position: (s * Page::SIZE) as u64,
+                    length: length as u64,
+                });
+            }
+            if stored < id {
+                return Says::Below { id: stored, after };
+            }
+            Says::Above { id: stored }
+        }
+    }
+}
+
+// What page s says to a walk back that looks for an id.
+fn says_at(log: &[u8], s: usize, id: u64) -> Says
+    requires { ⌜ (s < pageCount (now log)) × (length (now log) ≤ 2 ^ 31) ⌝ }
+    ensures { λ r. ⌜ paperSays r ≡ sayingAt (now (log .entry)) id s ⌝ }
 {
     let mark = Mark::read(log, s);
     match mark {
-        Mark::Later => Turn::Back,
-        Mark::Bad => Turn::End(Look::Refused(Refusal::BadMark { page: s as u64 })),
-        Mark::Start => {
-            let entry = Entry::read(log, s);
-            match entry {
-                Entry::Refused(refusal) => Turn::End(Look::Refused(refusal)),
-                Entry::Whole {
-                    id: stored,
-                    length,
-                    after,
-                } => {
-                    if stored == id {
-                        return Turn::End(Look::Found {
-                            position: (s * Page::SIZE) as u64,
-                            length: (length - Page::ID) as u64,
-                        });
-                    }
-                    if stored < id {
-                        return Turn::Below { id: stored, after };
-                    }
-                    Turn::Above { id: stored }
-                }
-            }
-        }
+        Mark::Start => compare(log, s, id),
+        Mark::Later => Says::Back,
+        Mark::Bad => Says::End(Look::Refused(Refusal::BadMark { page: s as u64 })),
     }
 }
 
@@ -81,7 +90,7 @@ fn search(log: &[u8], next: u64, id: u64) -> Look
     ensures { λ r. ⌜ paperLook r ≡ searchOf (now (log .entry)) next id ⌝ }
 {
     let mut lo = 0;
-    let mut hi = log.len() / Page::SIZE;
+    let mut hi = Page::count(log);
     let mut a = 0;
     let mut b = next;
     // what to answer if the window is empty now
@@ -92,18 +101,18 @@ fn search(log: &[u8], next: u64, id: u64) -> Look
         let g = lo + offset(id - a, b - a, hi - lo);
         let mut s = g;
         'back: loop {
-            let turn = turn_at(log, s, id);
-            match turn {
-                Turn::End(look) => {
+            let says = says_at(log, s, id);
+            match says {
+                Says::End(look) => {
                     answer = look;
                     break 'window;
                 }
-                Turn::Below { id: stored, after } => {
+                Says::Below { id: stored, after } => {
                     a = stored;
                     lo = if after <= g { g + 1 } else { after };
                     break 'back;
                 }
-                Turn::Above { id: stored } => {
+                Says::Above { id: stored } => {
                     b = stored;
                     hi = s;
                     answer = Look::Absent {
@@ -111,7 +120,7 @@ fn search(log: &[u8], next: u64, id: u64) -> Look
                     };
                     break 'back;
                 }
-                Turn::Back => {
+                Says::Back => {
                     if s == lo {
                         lo = g + 1;
                         break 'back;
@@ -145,7 +154,7 @@ pub fn find(store: &[u8], state: State, id: u64) -> Look
 
 // Finds an id, and copies its data to the front of `out`.
 pub fn lookup(store: &[u8], state: State, id: u64, out: &mut [u8]) -> Look
-    ensures { λ r. ⌜ looked (paperLook r) (now (out .exit)) ≡ lookupOf (now (store .entry)) state id (now (out .entry)) ⌝ }
+    ensures { λ r. ⌜ withOutput (paperLook r) (now (out .exit)) ≡ lookupOf (now (store .entry)) state id (now (out .entry)) ⌝ }
 {
     let look = find(store, state, id);
     if let Look::Found { position, length } = look {

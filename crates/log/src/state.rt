@@ -41,7 +41,7 @@ impl State {
     }
 
     // The state with another length and another last written id.
-    pub(crate) fn moved(self, length: u64, last: u64) -> State
+    pub fn moved(self, length: u64, last: u64) -> State
         ensures { λ r. ⌜ r ≡ movedTo self length last ⌝ }
     {
         State {

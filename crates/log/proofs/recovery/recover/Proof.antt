@@ -1,28 +1,27 @@
 -- `recover` meets its contract. Assumes nothing.
 use mathlib.Core.Path.{refl, sym, _∙_}
 use native.Mathlib.Omega.{arith}
-use Rattle.log.proofs.Recovering.{length-cut, cut-pages, recover-bad, recover-fresh, recover-tail}
-use borrow.Author.Needs.{needs}
+use Rattle.log.proofs.Laws.Recovery.Steps.{part-length, cut-pages, recover-bad, recover-fresh, recover-tail}
 use Rattle.log.proofs.recovery.recover.Statement.{statement}
 use Rattle.log.proofs.recovery.recover.Tie as tie
 
 is-too-long-requires : tie.Need-is-too-long-requires
-is-too-long-requires c κs = search needs
+is-too-long-requires c κs = tt
 
 returns : tie.Need-returns
 returns c = recover-bad _ _ (sym (c .before .is-too-long .ensures) ∙ c .if1 .taken)
 
 sub-whole : tie.Need-sub-whole
-sub-whole c = search needs
+sub-whole c = omega arith
 
 fresh-requires : tie.Need-fresh-requires
-fresh-requires c κs = search needs
+fresh-requires c κs = tt
 
 returns-2 : tie.Need-returns-2
 returns-2 c = recover-fresh _ _ (sym (c .before .before .before .is-too-long .ensures) ∙ c .before .before .if1 .left) _ refl (omega arith) _ (c .fresh .ensures)
 
 slice-aggregate-walk-back : tie.Need-slice-aggregate-walk-back
-slice-aggregate-walk-back c = sym (length-cut _ _ (sym (c .before .before .before .is-too-long .ensures) ∙ c .before .before .if1 .left) _ (omega arith))
+slice-aggregate-walk-back c = part-length _ _ (sym (c .before .before .before .is-too-long .ensures) ∙ c .before .before .if1 .left) _ (λ f. omega arith)
 
 walk-back-requires : tie.Need-walk-back-requires
 walk-back-requires c κs = cut-pages _ _ (sym (c .before .before .before .is-too-long .ensures) ∙ c .before .before .if1 .left) _ (omega arith) (c .before .if2 .left)

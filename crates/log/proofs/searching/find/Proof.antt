@@ -1,14 +1,13 @@
--- `find` meets its contract: each return is one law of `Finding`. Assumes nothing.
+-- `find` meets its contract: each return is one law of `Tests`. Assumes nothing.
 use Prim.Native.Nat.{ℕ}
 use mathlib.Core.Path.{_≡_, sym, _∙_}
 use mathlib.Core.Bool.{false}
 use mathlib.Core.List.{List}
 use native.Mathlib.Omega.{arith}
 use borrow.Author.Needs.{needs}
-use lib.ListN.{length}
-use Rattle.log.specs.Bounds.{badState}
-use Rattle.log.proofs.Bounding.{Good, good, length-log}
-use Rattle.log.proofs.Finding.{find-bad, find-in, find-zero, find-late}
+use Rattle.log.specs.Bounds.{badState, Good}
+use Rattle.log.proofs.Laws.Bounds.{good-state, length-log}
+use Rattle.log.proofs.Laws.Lookup.Tests.{find-bad, find-in, find-zero, find-late}
 use Rattle.log.proofs.searching.find.Statement.{statement}
 use Rattle.log.proofs.searching.find.Tie as tie
 
@@ -23,7 +22,7 @@ not-bad : (c : tie.Else1) → badState (store-at c) (length-at c) ≡ false
 not-bad c = sym (c .before .is-bad-state .ensures) ∙ c .if1 .left
 
 bounded : (c : tie.Else1) → Good (store-at c) (length-at c)
-bounded c = good (store-at c) (length-at c) (not-bad c)
+bounded c = good-state (store-at c) (length-at c) (not-bad c)
 
 is-bad-state-requires : tie.Need-is-bad-state-requires
 is-bad-state-requires c κs = search needs
@@ -42,13 +41,13 @@ returns-3 c =
 slice-aggregate-search : tie.Need-slice-aggregate-search
 slice-aggregate-search c =
     let past = c .before .before .before .before in
-    sym (length-log (store-at past) (length-at past) (bounded past .inside))
+    sym (length-log (store-at past) (length-at past) (bounded past .fits .inside))
 
 search-requires : tie.Need-search-requires
 search-requires c κs =
     let past = c .before .before .before .before in
     let some = c .before .before .before .if2 .left in
-    (omega arith, omega arith, omega (arith, length-log (store-at past) (length-at past) (bounded past .inside), bounded past .small, bounded past .inside))
+    (omega arith, omega arith, omega (arith, length-log (store-at past) (length-at past) (bounded past .fits .inside), bounded past .fits .small, bounded past .fits .inside))
 
 returns-4 : tie.Need-returns-4
 returns-4 c = c .search .ensures ∙ sym (find-in _ _ _ (not-bad (c .before .before .before .before .before)))

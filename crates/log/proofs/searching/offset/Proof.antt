@@ -1,4 +1,4 @@
--- `offset` meets its contract: leading zeros give the least shift (`Shifting`). Assumes nothing.
+-- `offset` meets its contract: leading zeros give the least shift (`Shift`). Assumes nothing.
 use Prim.Native.Nat.{ℕ, _≤_, _*_, _/_, _^_}
 use mathlib.Core.Path.{sym, subst}
 use mathlib.Core.Logic.{⊎-elim}
@@ -7,7 +7,7 @@ use native.Mathlib.Nat.{mul-le-mul-right}
 use lib.Pow.{shr-mono}
 use borrow.Author.Needs.{needs}
 use Rattle.log.specs.Guess.{offsetOf}
-use Rattle.log.proofs.Shifting.{Shift, shift-some, shift-none}
+use Rattle.log.proofs.Laws.Lookup.Shift.{Shift, shift-some, shift-none}
 use Rattle.log.proofs.searching.offset.Statement.{statement}
 use Rattle.log.proofs.searching.offset.Tie as tie
 

@@ -1,0 +1,5 @@
+pub mod Bounds
+pub mod Output
+pub mod Recovery
+pub mod Check
+pub mod Lookup

@@ -1,0 +1,13 @@
+-- What the contracts of private functions cite beside the rules' own definitions: the paper's answer for each case of a private enum.
+use Prim.Native.Nat.{ℕ}
+use mathlib.Core.List.{List}
+use Rattle.refusal.specs.Refusal.{numberOf, valueOf}
+use Rattle.log.specs.Round.{Round, stop, again}
+use Rattle.pushing.specs.Push.{refused, Point, point, Done, done}
+use Rattle.pushing.specs.declared.EntryTurn.{EntryTurn}
+use Rattle.pushing.specs.declared.EntryTurn.the-variants.{Written, Refused}
+
+-- of entry j, with the image and the store that its turn leaves
+abbrev pub paperEntryTurn : ℕ → List ℕ → List ℕ → EntryTurn → Round Done Point
+paperEntryTurn j image store (Written st) = again (point st image store)
+paperEntryTurn j image store (Refused r st) = stop (done (refused (numberOf r) (valueOf r)) j (point st image store))

@@ -1,0 +1,145 @@
+-- 01, "Push": what a push of a batch answers and leaves in the store, entry by entry.
+use Prim.Native.Nat.{ℕ, zero, suc, _+_, _-_, _*_}
+use mathlib.Core.Bool.{Bool, false, not, _||_}
+use mathlib.Core.List.{List, _++_}
+use lib.Dec.{ltb, leb, eqb}
+use lib.ListN.{length, getD, take, drop}
+use Rattle.refusal.specs.Pick.{pick}
+use Rattle.refusal.specs.Refusal.{numberOf, valueOf}
+use Rattle.page.specs.Size.{pageSize, idSize, payloadEnd, dataEnd, pagesForData}
+use Rattle.page.specs.Write.{blank, overwritten, entryPages, entryImage}
+use Rattle.log.specs.Round.{Round, stop, again, follow}
+use Rattle.log.specs.Bounds.{badState}
+use Rattle.log.specs.State.{movedTo}
+use Rattle.log.specs.declared.state.State.{State}
+use Rattle.pushing.specs.declared.Reason.{Reason}
+use Rattle.pushing.specs.declared.Reason.the-variants.{None, Refused}
+use Rattle.pushing.specs.declared.Pushed.{Pushed}
+
+-- ---- the answer
+
+-- the reason for which a push ended: none, or a refusal's number and value
+pub data Why : Type 0 where
+  none : Why
+  refused : (number value : ℕ) → Why
+
+-- "The answer is the reason, the count of entries written and the state"
+pub record Pushing : Type 0 where
+  pub reason : Why
+  pub written : ℕ
+  pub state : State
+
+abbrev pub pushing : Why → ℕ → State → Pushing
+pushing why n st = record { reason = why; written = n; state = st }
+
+-- the paper's reason for each case of the code's
+abbrev pub paperReason : Reason → Why
+paperReason None = none
+paperReason (Refused r) = refused (numberOf r) (valueOf r)
+
+-- the paper's answer for the code's
+abbrev pub paperPushed : Pushed → Pushing
+paperPushed r = pushing (paperReason (r .reason)) (r .written) (r .state)
+
+-- ---- the batch
+
+-- "the end before it, 0 for the first"
+abbrev pub before : List ℕ → ℕ → ℕ
+before ends zero = 0
+before ends (suc j) = getD ends j 0
+
+-- "An entry's data runs from the end before it .. to its own end"
+unfoldable pub entryData : List ℕ → List ℕ → ℕ → List ℕ
+entryData ends bytes j = take (getD ends j 0 - before ends j) (drop (before ends j) bytes)
+
+-- some number below n passes the test
+unfoldable pub some : (ℕ → Bool) → ℕ → Bool
+some test zero = false
+some test (suc n) = some test n || test n
+
+-- "ends fall, or an end is beyond the batch data": end j
+unfoldable pub badEnd : List ℕ → List ℕ → ℕ → Bool
+badEnd ends bytes j = ltb (getD ends j 0) (before ends j) || ltb (length bytes) (getD ends j 0)
+
+-- "13 bad batch: id and end counts differ, ends fall, or an end is beyond the batch data"
+unfoldable pub badBatch : List ℕ → List ℕ → List ℕ → Bool
+badBatch ids ends bytes = not (eqb (length ids) (length ends)) || some (badEnd ends bytes) (length ends)
+
+-- "exceeds 16,777,208 bytes": the data of entry j
+unfoldable pub largeData : List ℕ → List ℕ → ℕ → Bool
+largeData ends bytes j = ltb dataEnd (length (entryData ends bytes j))
+
+-- "16 value too large: some data of a batch exceeds 16,777,208 bytes"
+unfoldable pub someLarge : List ℕ → List ℕ → Bool
+someLarge ends bytes = some (largeData ends bytes) (length ends)
+
+-- ---- the entries in turn
+
+-- where a push stands: the state, the page image and the store
+pub record Point : Type 0 where
+  pub state : State
+  pub image : List ℕ
+  pub store : List ℕ
+
+abbrev pub point : State → List ℕ → List ℕ → Point
+point st image store = record { state = st; image = image; store = store }
+
+-- the log as it stands: "the first `length` bytes of a lent store"
+abbrev pub logAt : Point → List ℕ
+logAt p = take (p .state .length) (p .store)
+
+-- "one page image is all zeros when a push begins"
+abbrev pub begin : List ℕ → State → Point
+begin store st = point st blank store
+
+-- "last written becomes its id"
+abbrev pub used : ℕ → Point → Point
+used id p = point (movedTo (p .state) (p .state .length) id) (p .image) (p .store)
+
+-- the bytes of an entry's pages
+abbrev pub bytesFor : List ℕ → ℕ
+bytesFor d = pagesForData (length d) * pageSize
+
+-- "its pages are written and length grows"
+unfoldable pub wrote : ℕ → List ℕ → Point → Point
+wrote id d p =
+    point
+    (movedTo (p .state) (p .state .length + bytesFor d) id)
+    (entryImage (p .image) id d)
+    (logAt p ++ overwritten (drop (p .state .length) (p .store)) (entryPages (p .image) id d))
+
+-- what a push leaves: its answer, and the store
+pub record Done : Type 0 where
+  pub answer : Pushing
+  pub store : List ℕ
+
+abbrev pub done : Why → ℕ → Point → Done
+done why n p = record { answer = pushing why n (p .state); store = p .store }
+
+-- "The first refusal ends the push: earlier entries stay", j of them
+abbrev pub refuse : ℕ → ℕ → Point → Round Done Point
+refuse number j p = stop (done (refused number 0) j p)
+
+-- "3" its payload is 2^24 bytes or more; "4" its pages do not fit between length and the store's end; else they are written
+unfoldable pub writing : ℕ → ℕ → List ℕ → Point → Round Done Point
+writing j id d p =
+    pick (leb payloadEnd (idSize + length d)) (refuse 3 j p)
+    (pick (ltb (length (p .store) - p .state .length) (bytesFor d)) (refuse 4 j p)
+    (again (wrote id d p)))
+
+-- "each entry in turn: 2; last written becomes its id; 3; 4; its pages are written and length grows": entry j
+unfoldable pub turn : ℕ → ℕ → List ℕ → Point → Round Done Point
+turn j id d p = pick (leb id (p .state .last)) (refuse 2 j p) (writing j id d (used id p))
+
+-- the n entries from entry j on
+unfoldable pub entriesFrom : List ℕ → List ℕ → List ℕ → ℕ → ℕ → Point → Done
+entriesFrom ids ends bytes zero j p = done none j p
+entriesFrom ids ends bytes (suc n) j p = follow (entriesFrom ids ends bytes n (suc j)) (turn j (getD ids j 0) (entryData ends bytes j) p)
+
+-- "Order: 1, 13, 16 for the whole batch (nothing changes), then each entry in turn"
+unfoldable pub pushOf : List ℕ → State → List ℕ → List ℕ → List ℕ → Done
+pushOf store st ids ends bytes =
+    pick (badState store (st .length)) (done (refused 1 0) 0 (begin store st))
+    (pick (badBatch ids ends bytes) (done (refused 13 0) 0 (begin store st))
+    (pick (someLarge ends bytes) (done (refused 16 0) 0 (begin store st))
+    (entriesFrom ids ends bytes (length ids) 0 (begin store st))))

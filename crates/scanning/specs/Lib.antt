@@ -1,0 +1,4 @@
+pub mod Range
+pub mod Scan
+pub mod Step
+pub mod Private

@@ -1,0 +1,39 @@
+-- 01, "Scan": where a scan starts.
+use Prim.Native.Nat.{ℕ}
+use mathlib.Core.List.{List}
+use Rattle.refusal.specs.Pick.{pick}
+use Rattle.refusal.specs.Refusal.{numberOf, valueOf}
+use Rattle.log.specs.Bounds.{badState}
+use Rattle.log.specs.Lookup.{Looking, found, absent, refused as unfound, findOf}
+use Rattle.log.specs.declared.state.State.{State}
+use Rattle.scanning.specs.declared.End.{End}
+use Rattle.scanning.specs.declared.End.the-variants.{Open, Included, Excluded}
+use Rattle.scanning.specs.declared.Range.{Range}
+use Rattle.scanning.specs.declared.Started.{Started}
+use Rattle.scanning.specs.declared.Started.the-variants.{At, Refused}
+
+-- what starting a scan answers: the cursor of its first step, or a refusal
+pub data Beginning : Type 0 where
+  at : (cursor : ℕ) → Beginning
+  refused : (number value : ℕ) → Beginning
+
+-- the paper's answer for each case of the code's
+abbrev pub paperStarted : Started → Beginning
+paperStarted (At cursor) = at cursor
+paperStarted (Refused r) = refused (numberOf r) (valueOf r)
+
+-- "at the position the lookup of that id gives, found or absent"; it "otherwise refuses as the lookup does"
+abbrev pub fromLook : Looking → Beginning
+fromLook (found position len) = at position
+fromLook (absent position) = at position
+fromLook (unfound number value) = refused number value
+
+-- "A scan starts at 0 if the lower end is open, else at the position the lookup of that id gives"
+abbrev pub fromEnd : List ℕ → State → End → Beginning
+fromEnd store st Open = at 0
+fromEnd store st (Included id) = fromLook (findOf store st id)
+fromEnd store st (Excluded id) = fromLook (findOf store st id)
+
+-- "Starting and stepping both check refusal 1 first"
+unfoldable pub scanOf : List ℕ → State → Range → Beginning
+scanOf store st range = pick (badState store (st .length)) (refused 1 0) (fromEnd store st (range .lower))
