@@ -1,0 +1,178 @@
+-- Demand 3, and the last sentence of demand 2. Assumes nothing.
+use Prim.Native.Nat.{ℕ, _-_, _*_, _/_, _≤_, _<_}
+use mathlib.Core.Path.{_≡_, refl, sym, ap, _∙_, subst}
+use mathlib.Core.Logic.{⊎-elim}
+use mathlib.Core.List.{List, [], _∷_, _++_, List·Memᴰ, List·Memᴰ·not-nil, List·Memᴰ·cases-cons}
+use native.Mathlib.Omega.{arith}
+use lib.ListN.{length, getD}
+use Rattle.page.specs.Size.{pageSize}
+use Rattle.page.specs.Entry.{idAt, dataLengthAt}
+use Rattle.log.specs.Bounds.{Fits}
+use Rattle.pushing.specs.Push.{entryData, pushOf}
+use Rattle.log.specs.Recovery.{excessOf, cutLog}
+use Rattle.log.specs.Lookup.{findOf}
+use Rattle.log.specs.declared.state.State.{State}
+use Rattle.log.proofs.Laws.Bounds.{length-log}
+use Rattle.demands.specs.Sound.{Start, Sound, Last}
+use Rattle.demands.specs.Push.{Holds}
+use Rattle.demands.specs.Lookup.{Standing, present, standing, RightStanding}
+use Rattle.demands.specs.History.{World, logOf, Words, Call, push, step, answer, run, Said, said, Begun, Settled, Answer, Gives, Answers, Keeps, KeepsFirst, ReadsBack}
+use Rattle.demands.proofs.Lookup.Right.{find-right, find-stored, right-unique}
+use Rattle.demands.proofs.Push.Appending.{holds-kept}
+use Rattle.demands.proofs.Push.Batch.{push-right}
+use Rattle.demands.proofs.Recovery.Resuming.{last-greatest, Resumed, from-empty, from-last, recovered-fits, recovered-last}
+use Rattle.demands.proofs.History.Lasting.{right-grows, standingData, data-grows, right-exact, right-answers}
+use Rattle.demands.proofs.History.Moving.{Grows, Lives, Moved, stays-settled, moved, moved-run}
+
+-- ---- where a history begins
+
+module _ (w : World) (b : Begun w) where
+  abbrev begun-log : List ℕ
+  begun-log = cutLog (w .store) (b .size)
+
+  fits : Fits (w .store) (b .size)
+  fits = recovered-fits (w .store) (b .size) (w .state) (b .excess) (b .is)
+
+  resumed : Resumed begun-log (w .state)
+  resumed = recovered-last (w .store) (b .size) (w .state) (b .excess) (b .sound) (b .is) .0
+
+  size-is : length begun-log ≡ b .size - excessOf (b .size)
+  size-is = length-log (w .store) (b .size - excessOf (b .size)) (omega (arith, fits .inside))
+
+  -- the recovered length is the log's
+  pub same-length : w .state .length ≡ b .size - excessOf (b .size)
+  same-length = go resumed
+    where
+      go : Resumed begun-log (w .state) → w .state .length ≡ b .size - excessOf (b .size)
+      go (from-empty z e) = ap (λ (st : State). st .length) e ∙ sym z ∙ size-is
+      go (from-last p l e) = ap (λ (st : State). st .length) e ∙ size-is
+
+  pub begun-lives : Lives w
+  begun-lives = record {
+    good = rw same-length (record { fits = record { small = fits .small; inside = omega (arith, fits .inside) }; sound = b .sound });
+    under = rw same-length (go resumed);
+  }
+    where
+      go : Resumed begun-log (w .state) → (p : ℕ) → Start begun-log p → idAt begun-log p ≤ w .state .last
+      go (from-empty z e) p h = absurd (omega (arith, h .inside))
+      go (from-last q l e) p h =
+          let m = ap (λ (st : State). st .last) e in
+          omega (arith, m, last-greatest begun-log (b .sound) q p l h)
+
+  -- every stored id is below next there
+  begun-next : (p : ℕ) → Start (logOf w) p → idAt (logOf w) p < w .state .next
+  begun-next = rw same-length (go resumed)
+    where
+      go : Resumed begun-log (w .state) → (p : ℕ) → Start begun-log p → idAt begun-log p < w .state .next
+      go (from-empty z e) p h = absurd (omega (arith, h .inside))
+      go (from-last q l e) p h =
+          let m = ap (λ (st : State). st .next) e in
+          omega (arith, m, last-greatest begun-log (b .sound) q p l h)
+
+  -- so every id from 1 to the last one stored is settled where a history begins: the demand is about something
+  pub begun-settled : (p id : ℕ) → Last (logOf w) p → 1 ≤ id → id ≤ idAt (logOf w) p → Settled w id
+  begun-settled p id l some most = record { some = some; below = omega (arith, begun-next p (l .start)); page = p; last = l; most = most }
+
+-- ---- the first answer
+
+-- where an id stands in a world
+abbrev pub standsIn : World → ℕ → Standing
+standsIn w id = standing (findOf (w .store) (w .state) id)
+
+right-there : (w : World) → Lives w → (id : ℕ) → 1 ≤ id → id < w .state .next → RightStanding (logOf w) id (standsIn w id)
+right-there w i id some below = find-right (w .store) (w .state) id (i .good) some below
+
+-- what an id that is settled now gives after any calls
+module _ (w v : World) (i : Lives w) (m : Moved w v) (id : ℕ) (h : Settled w id) where
+  sound-grown : Sound (logOf w ++ m .grows .more)
+  sound-grown = rw (m .grows .is) at (m .lives .good .sound)
+
+  right-before : RightStanding (logOf w) id (standsIn w id)
+  right-before = right-there w i id (h .some) (h .below)
+
+  right-after : RightStanding (logOf v) id (standsIn w id)
+  right-after = rw (m .grows .is) (right-grows (logOf w) (m .grows .more) sound-grown id (h .page) (h .last .start) (h .most) (standsIn w id) right-before)
+
+  -- it stands where it stood
+  pub same-answer : standsIn v id ≡ standsIn w id
+  same-answer = right-unique (logOf v) (m .lives .good .sound) id (standsIn v id) (standsIn w id) (right-there v (m .lives) id (h .some) (m .next id h)) right-after
+
+  same-data : standingData (logOf v) (standsIn w id) ≡ standingData (logOf w) (standsIn w id)
+  same-data = rw (m .grows .is) (data-grows (logOf w) (m .grows .more) (i .good .sound) id (standsIn w id) right-before)
+
+  pub kept-answer : Keeps v id (standsIn w id) (standingData (logOf w) (standsIn w id))
+  kept-answer = record {
+    settled = stays-settled m id h;
+    answers = rw same-data at (right-answers v id (standsIn w id) same-answer right-after);
+    exact = rw same-data at (right-exact (logOf v) id (standsIn w id) right-after);
+  }
+
+-- ---- every call of a history
+
+-- a call of the sequence was answered in the world that the calls before it left
+pub record AnsweredIn (w : World) (x : Said) : Type 0 where
+  pub earlier : List Call
+  pub is : x .reply ≡ answer (run w earlier) (x .call)
+
+pub answered-in : (w : World) (calls : List Call) (x : Said) → List·Memᴰ x (said w calls) → AnsweredIn w x
+unfolding run said
+answered-in w [] x m = absurd (List·Memᴰ·not-nil m)
+answered-in w (c ∷ cs) x m = ⊎-elim
+    (λ e. record { earlier = []; is = ap (λ (y : Said). y .reply) e ∙ ap (λ (y : Said). answer w (y .call)) (sym e) })
+    (λ i. let a = answered-in (step w c) cs x i in record { earlier = c ∷ a .earlier; is = a .is })
+    (List·Memᴰ·cases-cons m)
+
+-- DEMAND 3: through any sequence of calls, refused ones included, from a sound log and its recovered state, a settled id keeps its first answer: found exactly if it is stored
+unfoldable pub settled : (w : World) → Begun w → (earlier : List Call) (id : ℕ) → Settled (run w earlier) id → KeepsFirst (run w earlier) id
+settled w b earlier id h =
+    let v = run w earlier in
+    let i = moved-run w earlier (begun-lives w b) .lives in
+    let s = standsIn v id in
+    let d = standingData (logOf v) (standsIn v id) in
+    record {
+      stands = s;
+      data-is = d;
+      kept = λ later. kept-answer v (run v later) i (moved-run v later i) id h;
+      gave = λ later x m.
+          let a = answered-in v later x m in
+          subst (λ (r : Answer). Gives (x .call) r id s d) (sym (a .is)) (kept-answer v (run v (a .earlier)) i (moved-run v (a .earlier) i) id h .answers (x .call));
+    }
+
+-- ---- reading back
+
+held-data : (log : List ℕ) (id : ℕ) (d : List ℕ) (h : Holds log id d) → standingData log (present (h .page * pageSize) (length d)) ≡ d
+unfolding standingData
+held-data log id d h =
+    let p : h .page * pageSize / pageSize ≡ h .page = omega arith in
+    rw p (h .same)
+
+-- an entry that the log holds is found, while its id is below next
+held-answers : (w : World) → Lives w → (id : ℕ) (d : List ℕ) (h : Holds (logOf w) id d) → id < w .state .next → Answers w id (present (h .page * pageSize) (length d)) d
+held-answers w i id d h below =
+    let some : 1 ≤ id = omega (arith, i .good .sound .from-one (h .page) (h .start), h .has) in
+    let n : dataLengthAt (logOf w) (h .page) ≡ length d = omega (arith, h .size) in
+    let e : standsIn w id ≡ present (h .page * pageSize) (length d) = find-stored (w .store) (w .state) id (i .good) some below (h .page) (h .start) (h .has) ∙ rw n in
+    rw (held-data (logOf w) id d h) at (right-answers w id (present (h .page * pageSize) (length d)) e (rw e at (right-there w i id some below)))
+
+held-on : {a b : List ℕ} → Grows a b → Sound a → {id : ℕ} {d : List ℕ} (h : Holds a id d) → (k : Holds b id d) × (k .page ≡ h .page)
+unfolding holds-kept
+held-on {a} {b} g s {id} {d} h = rw (g .is) (holds-kept a (g .more) id d s h, refl)
+
+-- "What a push writes onto a sound log reads back": from a sound log and its recovered state, after any calls, each entry that a push counts as written
+pub read-back : (w : World) → Begun w → (earlier : List Call) (ids ends bytes : List ℕ) (words : Words ids) (k : ℕ)
+    → k < pushOf (run w earlier .store) (run w earlier .state) ids ends bytes .answer .written
+    → ReadsBack (step (run w earlier) (push ids ends bytes words)) (getD ids k 0) (entryData ends bytes k)
+unfolding step answer
+read-back w b earlier ids ends bytes words k l =
+    let v = run w earlier in
+    let i = moved-run w earlier (begun-lives w b) .lives in
+    let u = step v (push ids ends bytes words) in
+    let j = moved v i (push ids ends bytes words) .lives in
+    let h = push-right ids ends bytes words (v .store) (v .state) i .held k l in
+    record {
+      position = h .page * pageSize;
+      reads = λ later below.
+          let m = moved-run u later j in
+          let g = held-on (m .grows) (j .good .sound) h in
+          rw (g .1) at (held-answers (run u later) (m .lives) (getD ids k 0) (entryData ends bytes k) (g .0) below);
+    }

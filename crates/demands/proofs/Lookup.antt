@@ -1,0 +1,5 @@
+pub mod AnyGuess
+pub mod Right
+pub mod Refusing
+pub mod Placed
+pub mod NeverTen

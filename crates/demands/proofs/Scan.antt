@@ -1,0 +1,6 @@
+pub mod Listed
+pub mod Handed
+pub mod Right
+pub mod OneListing
+pub mod Refusing
+pub mod Inside

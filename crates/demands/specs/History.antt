@@ -1,0 +1,175 @@
+-- Demand 3: a store with its state, the calls, what they answer and what they leave, and the settled ids.
+use Prim.Native.Nat.{ℕ, _^_, _≤_, _<_}
+use mathlib.Core.Path.{_≡_}
+use mathlib.Core.List.{List, [], _∷_, List·Memᴰ}
+use lib.ListN.{length, getD, take}
+use Rattle.page.specs.Entry.{idAt}
+use Rattle.page.specs.Data.{dataAt}
+use Rattle.page.specs.Write.{overwritten}
+use Rattle.log.specs.Output.{WithOutput}
+use Rattle.log.specs.State.{Taking, taken, refused as untaken, takeOf}
+use Rattle.pushing.specs.Push.{Done, pushOf}
+use Rattle.log.specs.Recovery.{Recovering, recovered, refused as unrecovered, cutLog, recoverOf}
+use Rattle.log.specs.Lookup.{Looking, findOf, lookupOf}
+use Rattle.scanning.specs.Scan.{Beginning, scanOf}
+use Rattle.scanning.specs.Step.{Stepping, stepOf}
+use Rattle.log.specs.declared.state.State.{State}
+use Rattle.scanning.specs.declared.Range.{Range}
+use Rattle.demands.specs.Sound.{Start, Sound, Stored, Last}
+use Rattle.demands.specs.Lookup.{Standing, present, missing, unsaid, standing}
+
+-- the bytes of the store, and the state that its owner holds
+pub record World : Type 0 where
+  pub store : List ℕ
+  pub state : State
+
+abbrev pub world : List ℕ → State → World
+world store st = record { store = store; state = st }
+
+-- "The log is the first `length` bytes of a lent store"
+abbrev pub logOf : World → List ℕ
+logOf w = take (w .state .length) (w .store)
+
+-- ---- calls
+
+-- ids are 64-bit numbers
+abbrev pub Words : List ℕ → Type 0
+Words ids = (k : ℕ) → getD ids k 0 < 2 ^ 64
+
+-- any call that demand 3 names: any batch, id, range, cursor and output; a recovery is at the log's current length
+pub data Call : Type 0 where
+  push : (ids ends bytes : List ℕ) → Words ids → Call
+  take-id : Call
+  find : (id : ℕ) → Call
+  lookup : (id : ℕ) (out : List ℕ) → Call
+  scan : (range : Range) → Call
+  step-on : (range : Range) (cursor : ℕ) (out : List ℕ) → Call
+  recover : Call
+
+-- what a call answers, and what it leaves in what it is lent, by the definitions that the functions' contracts cite
+pub data Answer : Type 0 where
+  pushed : Done → Answer
+  handed-out : Taking → Answer
+  located : Looking → Answer
+  looked-up : WithOutput Looking → Answer
+  scan-began : Beginning → Answer
+  stepped : WithOutput Stepping → Answer
+  restored : Recovering → Answer
+
+unfoldable pub answer : World → Call → Answer
+answer w (push ids ends bytes words) = pushed (pushOf (w .store) (w .state) ids ends bytes)
+answer w take-id = handed-out (takeOf (w .state))
+answer w (find id) = located (findOf (w .store) (w .state) id)
+answer w (lookup id out) = looked-up (lookupOf (w .store) (w .state) id out)
+answer w (scan range) = scan-began (scanOf (w .store) (w .state) range)
+answer w (step-on range cursor out) = stepped (stepOf (w .store) (w .state) range cursor out)
+answer w recover = restored (recoverOf (w .store) (w .state .length))
+
+-- the state after an id was asked for: "a refusal leaves state .. unchanged"
+abbrev pub stateAfterTake : State → Taking → State
+stateAfterTake st (taken id state) = state
+stateAfterTake st (untaken number value) = st
+
+abbrev pub stateAfterRecovery : State → Recovering → State
+stateAfterRecovery st (recovered state excess) = state
+stateAfterRecovery st (unrecovered number value) = st
+
+-- the world after an answer: a push leaves a store and a state, taking and recovering a state; a lookup and a scan are lent the store to read alone
+abbrev pub after : World → Answer → World
+after w (pushed r) = world (r .store) (r .answer .state)
+after w (handed-out r) = world (w .store) (stateAfterTake (w .state) r)
+after w (located r) = w
+after w (looked-up r) = w
+after w (scan-began r) = w
+after w (stepped r) = w
+after w (restored r) = world (w .store) (stateAfterRecovery (w .state) r)
+
+unfoldable pub step : World → Call → World
+step w c = after w (answer w c)
+
+-- "any sequence of calls, refused ones included": the world after them
+unfoldable pub run : World → List Call → World
+run w [] = w
+run w (c ∷ cs) = run (step w c) cs
+
+-- a call, and what it answered
+pub record Said : Type 0 where
+  pub call : Call
+  pub reply : Answer
+
+-- what each call of the sequence answered
+unfoldable pub said : World → List Call → List Said
+said w [] = []
+said w (c ∷ cs) = record { call = c; reply = answer w c } ∷ said (step w c) cs
+
+-- ---- where a history begins
+
+-- a store of which n bytes are a sound log and an excess, and the state that their recovery gives
+pub record Begun (w : World) : Type 0 where
+  pub size : ℕ
+  pub sound : Sound (cutLog (w .store) size)
+  pub excess : ℕ
+  pub is : recoverOf (w .store) size ≡ recovered (w .state) excess
+
+-- ---- settled ids
+
+-- at least 1, at most the id of the last entry stored, below next
+pub record Settled (w : World) (id : ℕ) : Type 0 where
+  pub some : 1 ≤ id
+  pub below : id < w .state .next
+  pub page : ℕ
+  pub last : Last (logOf w) page
+  pub most : id ≤ idAt (logOf w) page
+
+-- the answer is a lookup's, with that standing and that output after it
+pub record LooksUp (r : Answer) (s : Standing) (out : List ℕ) : Type 0 where
+  pub look : WithOutput Looking
+  pub is : r ≡ looked-up look
+  pub stands : standing (look .answer) ≡ s
+  pub leaves : look .out ≡ out
+
+-- the answer is a search's, with that standing
+pub record Locates (r : Answer) (s : Standing) : Type 0 where
+  pub look : Looking
+  pub is : r ≡ located look
+  pub stands : standing look ≡ s
+
+-- if the call looked for the id, with enough output, it gave this standing, and a lookup put the data d to its output's front, the rest unchanged
+abbrev pub Gives : Call → Answer → ℕ → Standing → List ℕ → Type 0
+Gives (push ids ends bytes words) r id s d = Unit {0}
+Gives take-id r id s d = Unit {0}
+Gives (find i) r id s d = i ≡ id → Locates r s
+Gives (lookup i out) r id s d = i ≡ id → length d ≤ length out → LooksUp r s (overwritten out d)
+Gives (scan range) r id s d = Unit {0}
+Gives (step-on range cursor out) r id s d = Unit {0}
+Gives recover r id s d = Unit {0}
+
+-- and so does every call that is made now
+abbrev pub Answers : World → ℕ → Standing → List ℕ → Type 0
+Answers w id s d = (c : Call) → Gives c (answer w c) id s d
+
+-- "found exactly if it is stored": found with the entry's position, data length and data; absent where no entry has the id
+abbrev pub ExactlyStored : List ℕ → ℕ → Standing → List ℕ → Type 0
+ExactlyStored log id (present position len) d = (entry : Stored log id position len) × (d ≡ dataAt log (entry .page) len) × (length d ≡ len)
+ExactlyStored log id (missing position) d = ((p : ℕ) → Start log p → idAt log p ≡ id → ⊥) × (d ≡ [])
+ExactlyStored log id unsaid d = ⊥
+
+-- the id is settled, every lookup of it gives this standing and this data, and that is found exactly if it is stored
+pub record Keeps (w : World) (id : ℕ) (s : Standing) (d : List ℕ) : Type 0 where
+  pub settled : Settled w id
+  pub answers : Answers w id s d
+  pub exact : ExactlyStored (logOf w) id s d
+
+-- the first answer, which is chosen before any later call is: every later call keeps it, and every later lookup gave it
+pub record KeepsFirst (w : World) (id : ℕ) : Type 0 where
+  pub stands : Standing
+  pub data-is : List ℕ
+  pub kept : (later : List Call) → Keeps (run w later) id stands data-is
+  pub gave : (later : List Call) (x : Said) → List·Memᴰ x (said w later) → Gives (x .call) (x .reply) id stands data-is
+
+-- ---- reading back
+
+-- the entry has one position, and after any later calls every lookup of its id, while that is below next, finds it there with its data
+pub record ReadsBack (w : World) (id : ℕ) (d : List ℕ) : Type 0 where
+  pub position : ℕ
+  pub reads : (later : List Call) → id < run w later .state .next → Answers (run w later) id (present position (length d)) d

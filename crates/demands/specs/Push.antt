@@ -1,0 +1,71 @@
+-- 01, "Push": what a push adds to the log, and what it leaves of a sound one.
+use Prim.Native.Nat.{ℕ, zero, suc, _+_, _≤_, _<_}
+use mathlib.Core.Path.{_≡_}
+use mathlib.Core.Bool.{_||_}
+use mathlib.Core.List.{List, [], _++_}
+use lib.Dec.{eqb}
+use lib.ListN.{length, getD, take, drop}
+use Rattle.refusal.specs.Pick.{pick}
+use Rattle.page.specs.Size.{idSize}
+use Rattle.page.specs.Entry.{lengthAt, idAt}
+use Rattle.page.specs.Data.{dataAt}
+use Rattle.page.specs.Write.{blank, entryPages, entryImage}
+use Rattle.pushing.specs.Push.{Why, none, refused, Pushing, entryData, Done}
+use Rattle.log.specs.declared.state.State.{State}
+use Rattle.demands.specs.Sound.{Start, SoundStore}
+
+-- the pages of n entries from entry j on, each written over the image that the one before left
+unfoldable pub pagesFrom : List ℕ → List ℕ → List ℕ → ℕ → ℕ → List ℕ → List ℕ
+pagesFrom ids ends bytes zero j image = []
+pagesFrom ids ends bytes (suc n) j image =
+    entryPages image (getD ids j 0) (entryData ends bytes j)
+    ++ pagesFrom ids ends bytes n (suc j) (entryImage image (getD ids j 0) (entryData ends bytes j))
+
+-- the pages of the first n entries of a batch
+abbrev pub batchPages : List ℕ → List ℕ → List ℕ → ℕ → List ℕ
+batchPages ids ends bytes n = pagesFrom ids ends bytes n 0 blank
+
+-- the log that a push leaves
+abbrev pub logAfter : Done → List ℕ
+logAfter r = take (r .answer .state .length) (r .store)
+
+-- on any input: "Bytes outside the added pages keep their value. Push never moves the next id"
+pub record Grown (store : List ℕ) (st : State) (ids ends bytes : List ℕ) (r : Done) : Type 0 where
+  -- the log after is the log before followed by the pages of exactly the entries counted
+  pub log : logAfter r ≡ take (st .length) store ++ batchPages ids ends bytes (r .answer .written)
+  -- no byte after it changes
+  pub after : drop (r .answer .state .length) (r .store) ≡ drop (r .answer .state .length) store
+  pub size : length (r .store) ≡ length store
+  pub next : r .answer .state .next ≡ st .next
+
+-- the id of the last of the first n entries; what it was before if there is none
+abbrev pub lastOf : State → List ℕ → ℕ → ℕ
+lastOf st ids zero = st .last
+lastOf st ids (suc n) = getD ids n 0
+
+-- after n entries were written; "last written becomes its id" before 3 and 4, so these use up the id of the entry that they refuse
+abbrev pub lastFor : Why → State → List ℕ → ℕ → ℕ
+lastFor none st ids n = lastOf st ids n
+lastFor (refused number value) st ids n = pick (eqb number 3 || eqb number 4) (getD ids n 0) (lastOf st ids n)
+
+-- on any input: last written after a push
+abbrev pub lastAfter : State → List ℕ → Pushing → ℕ
+lastAfter st ids r = lastFor (r .reason) st ids (r .written)
+
+-- the log holds an entry with that id and that data
+pub record Holds (log : List ℕ) (id : ℕ) (d : List ℕ) : Type 0 where
+  pub page : ℕ
+  pub start : Start log page
+  pub has : idAt log page ≡ id
+  pub size : lengthAt log page ≡ idSize + length d
+  pub same : dataAt log page (length d) ≡ d
+
+-- a sound log in its store, with last written at or above the last stored id
+pub record Ready (store : List ℕ) (st : State) : Type 0 where
+  pub good : SoundStore store (st .length)
+  pub under : (p : ℕ) → Start (take (st .length) store) p → idAt (take (st .length) store) p ≤ st .last
+
+-- onto a sound log: it stays so, and holds every entry counted
+pub record RightPush (ids ends bytes : List ℕ) (r : Done) : Type 0 where
+  pub ready : Ready (r .store) (r .answer .state)
+  pub held : (k : ℕ) → k < r .answer .written → Holds (logAfter r) (getD ids k 0) (entryData ends bytes k)
