@@ -5,7 +5,7 @@ use mathlib.Core.Logic.{_⊎_, _↔_, Iff·trans}
 use mathlib.Core.List.{List}
 use native.Mathlib.Omega.{arith}
 use lib.ListN.{length}
-use Rattle.sequence.specs.Sequence.{noted, Moved, truncateOf, stored, raised, Outcome, settled, noteOf}
+use Rattle.sequence.specs.Sequence.{noted, Truncated, truncateOf, stored, raised, Outcome, afterMove, noteOf}
 use Rattle.sequence.specs.Known.{Known}
 use Rattle.sequence.specs.declared.IdSequence.{IdSequence}
 use Rattle.sequence.proofs.Known.{known-stored, known-rounds}
@@ -19,7 +19,7 @@ module _ (s : IdSequence) (words : List ℕ) (size : length words ≡ 64) (id : 
       → (i : ℕ) → Known after start (o .words) i ↔ (Known (s .after) (s .start) words i ⊎ (i ≡ id))
 
   -- the ids that are noted after moving on are those noted before it
-  adds : (m : Moved) → ((i : ℕ) → Known (raised s id) (m .start) (m .words) i ↔ (Known (s .after) (s .start) words i ⊎ (i ≡ id))) → Adds (settled (raised s id) m)
+  adds : (m : Truncated) → ((i : ℕ) → Known (raised s id) (m .start) (m .words) i ↔ (Known (s .after) (s .start) words i ⊎ (i ≡ id))) → Adds (afterMove (raised s id) m)
   adds m f start after e i = rw (sym p, sym q) (f i)
     where
       p : m .start ≡ start

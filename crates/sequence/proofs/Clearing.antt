@@ -57,9 +57,9 @@ none-yet v n count = record {
 }
 
 module _ {v : List ℕ} {n count : ℕ} {w : List ℕ} {bits i : ℕ} (c : Cleared v n count w bits i) where
-  pub one-more : i < count → (mask : ℕ) → mask ≡ 2 ^ min 64 bits - 1
+  pub one-word-cleared : i < count → (mask : ℕ) → mask ≡ 2 ^ min 64 bits - 1
       → Cleared v n count (set w i (bitAnd (getD w i 0) mask)) 0 (i + 1)
-  one-more b mask m = record {
+  one-word-cleared b mask m = record {
     size = length-set w i (bitAnd (getD w i 0) mask) ∙ c .size;
     from = omega (arith, c .from);
     to = omega arith;

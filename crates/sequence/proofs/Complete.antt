@@ -10,7 +10,7 @@ use lib.ListN.{length, getD}
 use Rattle.sequence.specs.Window.{bitAt, allNoted}
 use Rattle.sequence.specs.Sequence.{next, stored, rounds, completeOf}
 use Rattle.sequence.specs.Known.{Known}
-use Rattle.sequence.specs.History.{History, begun, answered, step, run, In, NoGap, Right}
+use Rattle.sequence.specs.History.{History, begun, answered, step, run, In, NoGap, RightSequence}
 use Rattle.refusal.proofs.Cases.{side}
 use Rattle.sequence.proofs.Bits.{bits-ones}
 use Rattle.sequence.proofs.Window.{first-bit}
@@ -130,7 +130,7 @@ complete-is first h s = (
 
 -- over any words, after any notes, refused ones among them, and after any later ones
 pub complete-right : (first : ℕ) (words : List ℕ) → length words ≡ 64 → (notes more : List ℕ)
-    → Right first (run (begun first words) notes) (run (run (begun first words) notes) more)
+    → RightSequence first (run (begun first words) notes) (run (run (begun first words) notes) more)
 complete-right first words size notes more =
     let s = onward-run first (begun first words) notes (stands-begun first words size) .stands in
     let o = onward-run first (run (begun first words) notes) more s in

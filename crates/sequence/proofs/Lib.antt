@@ -8,4 +8,3 @@ pub mod Known
 pub mod Adds
 pub mod Complete
 pub mod Unique
-pub mod Worked

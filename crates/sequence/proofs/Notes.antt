@@ -6,12 +6,12 @@ use mathlib.Core.List.{List}
 use borrow.Author.Tests.{lt-ltb, le-ltb, le-leb, lt-leb, eq-eqb, ne-eqb}
 use lib.ListN.{getD, set}
 use Rattle.sequence.specs.Window.{marked, only}
-use Rattle.sequence.specs.Sequence.{Answer, refused, Moved, truncateOf, stored, raised, Outcome, outcome, settled, noteOf}
+use Rattle.sequence.specs.Sequence.{Noting, refused, Truncated, truncateOf, stored, raised, Outcome, outcome, afterMove, noteOf}
 use Rattle.sequence.specs.declared.IdSequence.{IdSequence}
 use Rattle.refusal.proofs.Cases.{side, same-or-not}
 
 -- an answer and its words, apart
-pub apart : {a : Answer} {ws : List ℕ} {o : Outcome} → o ≡ outcome a ws → (a ≡ o .answer) × (ws ≡ o .words)
+pub apart : {a : Noting} {ws : List ℕ} {o : Outcome} → o ≡ outcome a ws → (a ≡ o .answer) × (ws ≡ o .words)
 apart e = (sym (ap (λ (x : Outcome). x .answer) e), sym (ap (λ (x : Outcome). x .words) e))
 
 module _ (s : IdSequence) (words : List ℕ) (id : ℕ) where
@@ -30,12 +30,12 @@ module _ (s : IdSequence) (words : List ℕ) (id : ℕ) where
       note-last e = rw (le-ltb id (s .start) from, lt-leb 4096 (id - s .start) near, eq-eqb id 18446744073709551615 e)
 
       module _ (fits : id ≡ 18446744073709551615 → ⊥) where
-        pub note-in : noteOf s words id ≡ settled (raised s id) (truncateOf (raised s id) (s .start) (stored s words id))
+        pub note-in : noteOf s words id ≡ afterMove (raised s id) (truncateOf (raised s id) (s .start) (stored s words id))
         unfolding noteOf
         note-in = rw (le-ltb id (s .start) from, lt-leb 4096 (id - s .start) near, ne-eqb id 18446744073709551615 fits)
 
         -- the same from its parts
-        pub note-of : (held at count past word : ℕ) (left : List ℕ) (m : Moved)
+        pub note-of : (held at count past word : ℕ) (left : List ℕ) (m : Truncated)
             → at ≡ (id - s .start) / 64
             → count ≡ at + 1
             → held ≡ s .after - s .start
@@ -43,13 +43,13 @@ module _ (s : IdSequence) (words : List ℕ) (id : ℕ) where
             → word ≡ marked (getD left at 0) ((id - s .start) % 64)
             → past ≡ raised s id
             → m ≡ truncateOf past (s .start) (set left at word)
-            → noteOf s words id ≡ settled past m
+            → noteOf s words id ≡ afterMove past m
         note-of held at count past word left m a c h l w p e = rw (e, w, l, c, h, p, a) note-in
 
 -- a note is refused, with the words unchanged, or the id lies in the window and is noted
 pub by-cases : (s : IdSequence) (words : List ℕ) (id : ℕ) (P : Outcome → Type 0)
     → ((number : ℕ) → P (outcome (refused number 0) words))
-    → (s .start ≤ id → id - s .start < 4096 → P (settled (raised s id) (truncateOf (raised s id) (s .start) (stored s words id))))
+    → (s .start ≤ id → id - s .start < 4096 → P (afterMove (raised s id) (truncateOf (raised s id) (s .start) (stored s words id))))
     → P (noteOf s words id)
 by-cases s words id P refusal accepted = ⊎-elim (λ l. is _ (note-below s words id l) (refusal 11)) from (side id (s .start))
   where

@@ -8,27 +8,27 @@ use native.Mathlib.Omega.{arith}
 use borrow.Author.Tests.{lt-ltb, le-ltb}
 use lib.ListN.{getD}
 use lib.Dec.{ltb}
-use Rattle.sequence.specs.Sequence.{Moved, moved, next, passed, rounds, truncateOf}
+use Rattle.sequence.specs.Sequence.{Truncated, truncated, next, passed, rounds, truncateOf}
 use Rattle.sequence.specs.Window.{allNoted, shifted}
 use Rattle.refusal.specs.Pick.{pick}
 use Rattle.refusal.proofs.Cases.{side}
 
 module _ (after start : ℕ) (words : List ℕ) where
-  pub rounds-none : rounds 0 after start words ≡ moved start words
+  pub rounds-none : rounds 0 after start words ≡ truncated start words
   unfolding rounds
   rounds-none = refl
 
-  pub rounds-end : (k : ℕ) → after ≤ start → rounds k after start words ≡ moved start words
+  pub rounds-end : (k : ℕ) → after ≤ start → rounds k after start words ≡ truncated start words
   unfolding rounds
   rounds-end zero h = refl
   rounds-end (suc k) h = rw (le-ltb start after h)
 
-  pub rounds-stop : (k : ℕ) → allNoted (getD words 0 0) (next after start) ≡ false → rounds k after start words ≡ moved start words
+  pub rounds-stop : (k : ℕ) → allNoted (getD words 0 0) (next after start) ≡ false → rounds k after start words ≡ truncated start words
   unfolding rounds
   rounds-stop zero e = refl
   rounds-stop (suc k) e = rw e (same (ltb start after))
     where
-      same : (t : Bool) → pick t (moved start words) (moved start words) ≡ moved start words
+      same : (t : Bool) → pick t (truncated start words) (truncated start words) ≡ truncated start words
       same true = refl
       same false = refl
 
@@ -48,7 +48,7 @@ by-rounds after P one (suc k) start words p =
     (λ l. rw (rounds-end after start words (suc k) l) p)
     (side start after)
   where
-    Kept : Moved → Type 0
+    Kept : Truncated → Type 0
     Kept m = P (m .start) (m .words)
 
     inside : start < after → (P (start + next after start) (passed after start words) → Kept (rounds k after (start + next after start) (passed after start words)))
@@ -65,7 +65,7 @@ rounds-stopped (suc k) after start words b =
     (λ l. rw (rounds-end after start words (suc k) l) (λ g. absurd (omega arith)))
     (side start after)
   where
-    Stopped : Moved → Type 0
+    Stopped : Truncated → Type 0
     Stopped m = m .start < after → allNoted (getD (m .words) 0 0) (next after (m .start)) ≡ false
 
     inside : start < after → Stopped (rounds k after (start + next after start) (passed after start words))
@@ -83,10 +83,10 @@ pub going : (after from : ℕ) (words : List ℕ) → Going after from words fro
 going after from words = record { fuel = after - from; enough = omega arith; same = refl }
 
 module _ {after from : ℕ} {words₀ : List ℕ} {start : ℕ} {words : List ℕ} (g : Going after from words₀ start words) where
-  pub going-end : after ≤ start → moved start words ≡ truncateOf after from words₀
+  pub going-end : after ≤ start → truncated start words ≡ truncateOf after from words₀
   going-end h = sym (rounds-end after start words (g .fuel) h) ∙ g .same
 
-  pub going-stop : allNoted (getD words 0 0) (next after start) ≡ false → moved start words ≡ truncateOf after from words₀
+  pub going-stop : allNoted (getD words 0 0) (next after start) ≡ false → truncated start words ≡ truncateOf after from words₀
   going-stop e = sym (rounds-stop after start words (g .fuel) e) ∙ g .same
 
   going-on : (n : ℕ) (ws : List ℕ) → n ≡ next after start → ws ≡ passed after start words → start < after
@@ -107,6 +107,6 @@ module _ {after from : ℕ} {words₀ : List ℕ} {start : ℕ} {words : List �
 
 -- no more than 64 ids remain
 pub going-last : {after from : ℕ} {words₀ : List ℕ} {start : ℕ} {words : List ℕ} → Going after from words₀ start words → start < after → after - start ≤ 64
-    → allNoted (getD words 0 0) (next after start) ≡ true → moved after words ≡ truncateOf after from words₀
+    → allNoted (getD words 0 0) (next after start) ≡ true → truncated after words ≡ truncateOf after from words₀
 going-last {after} {start = start} {words = words} g l h e =
-    ap (λ (n : ℕ). moved n words) (let q : after ≡ start + (after - start) = omega arith in q) ∙ going-end (all-passed g l h e) (omega arith)
+    ap (λ (n : ℕ). truncated n words) (let q : after ≡ start + (after - start) = omega arith in q) ∙ going-end (all-passed g l h e) (omega arith)

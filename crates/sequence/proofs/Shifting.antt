@@ -50,7 +50,7 @@ module _ {v w : List ℕ} {i : ℕ} (s : Shifted v w i) where
           last : k ≡ i → getD (set w i 0) k 0 ≡ getD (drop 1 v ++ (0 ∷ [])) k 0
           last q = rw q (getD-set-same w i 0 0 (omega (arith, s .size)) ∙ sym (getD-at (drop 1 v) 0 [] 0 i short))
 
-  -- every word has moved, and the last one is cleared
+  -- every word has truncated, and the last one is cleared
   pub cleared : i + 1 ≡ length v → set w i 0 ≡ shifted v
   unfolding shifted
   cleared e = last-zero e ∙ tail v (omega arith)

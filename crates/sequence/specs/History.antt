@@ -5,7 +5,7 @@ use mathlib.Core.Bool.{true}
 use mathlib.Core.Logic.{_↔_}
 use mathlib.Core.List.{List, [], _∷_, List·Memᴰ}
 use Rattle.sequence.specs.Known.{Known}
-use Rattle.sequence.specs.Sequence.{Answer, noted, refused, newOf, completeOf, noteOf}
+use Rattle.sequence.specs.Sequence.{Noting, noted, refused, newOf, completeOf, noteOf}
 use Rattle.sequence.specs.declared.IdSequence.{IdSequence}
 
 -- the sequence and its words as they are, and the ids that were noted and not refused
@@ -19,7 +19,7 @@ abbrev pub begun : ℕ → List ℕ → History
 begun first words = record { sequence = newOf first; words = words; ids = [] }
 
 -- an id that is not refused is noted; a refusal leaves the sequence
-unfoldable pub answered : History → ℕ → Answer → List ℕ → History
+unfoldable pub answered : History → ℕ → Noting → List ℕ → History
 answered h id (noted start after) words =
     record { sequence = record { start = start; after = after }; words = words; ids = id ∷ h .ids }
 answered h id (refused number value) words =
@@ -44,7 +44,7 @@ abbrev pub NoGap : ℕ → List ℕ → Type 0
 NoGap first ids = (i highest : ℕ) → In highest ids → first ≤ i → i ≤ highest → In i ids
 
 -- 01, "Id sequence", of a sequence as it is after some notes, and after any later ones
-pub record Right (first : ℕ) (now later : History) : Type 0 where
+pub record RightSequence (first : ℕ) (now later : History) : Type 0 where
   -- complete is yes exactly if every id from the first start to the highest noted has been noted
   pub complete : (completeOf (now .sequence) ≡ true) ↔ NoGap first (now .ids)
   -- start never falls

@@ -14,12 +14,12 @@ use Rattle.sequence.specs.declared.Noted.{Noted}
 use Rattle.sequence.specs.declared.Noted.the-variants.{At, Refused}
 
 -- the paper's answers to a note: the sequence after it, or a refusal's number and what it names
-pub data Answer : Type 0 where
-  noted : (start after : ℕ) → Answer
-  refused : (number value : ℕ) → Answer
+pub data Noting : Type 0 where
+  noted : (start after : ℕ) → Noting
+  refused : (number value : ℕ) → Noting
 
 -- the paper's answer for each case of the code's
-abbrev pub paperNoted : Noted → Answer
+abbrev pub paperNoted : Noted → Noting
 paperNoted (At s) = noted (s .start) (s .after)
 paperNoted (Refused r) = refused (numberOf r) (valueOf r)
 
@@ -32,12 +32,12 @@ abbrev pub completeOf : IdSequence → Bool
 completeOf s = leb (s .after) (s .start)
 
 -- a start, and the words from it on
-pub record Moved : Type 0 where
+pub record Truncated : Type 0 where
   pub start : ℕ
   pub words : List ℕ
 
-abbrev pub moved : ℕ → List ℕ → Moved
-moved start words = record { start = start; words = words }
+abbrev pub truncated : ℕ → List ℕ → Truncated
+truncated start words = record { start = start; words = words }
 
 -- "take the first 64 of them, or all if fewer"
 abbrev pub next : ℕ → ℕ → ℕ
@@ -49,17 +49,17 @@ passed after start words = pick (ltb 64 (after - start)) (shifted words) words
 
 -- "while ids from start to the highest remain, take the first 64 of them, or all if fewer; if all are noted, start moves past them, else stop":
 -- so at most k times
-unfoldable pub rounds : ℕ → ℕ → ℕ → List ℕ → Moved
-rounds zero after start words = moved start words
+unfoldable pub rounds : ℕ → ℕ → ℕ → List ℕ → Truncated
+rounds zero after start words = truncated start words
 rounds (suc k) after start words =
     pick (ltb start after)
     (pick (allNoted (getD words 0 0) (next after start))
     (rounds k after (start + next after start) (passed after start words))
-    (moved start words))
-    (moved start words)
+    (truncated start words))
+    (truncated start words)
 
 -- the same with no bound: each time start moves by one at least, so not more often than ids remain
-abbrev pub truncateOf : ℕ → ℕ → List ℕ → Moved
+abbrev pub truncateOf : ℕ → ℕ → List ℕ → Truncated
 truncateOf after start words = rounds (after - start) after start words
 
 -- "Noting an id stores it": its bit is set, once the words up to its own hold nothing above the highest, where no id was noted
@@ -73,15 +73,15 @@ raised s id = max (s .after) (id + 1)
 
 -- an answer, with the words that it leaves
 pub record Outcome : Type 0 where
-  pub answer : Answer
+  pub answer : Noting
   pub words : List ℕ
 
-abbrev pub outcome : Answer → List ℕ → Outcome
+abbrev pub outcome : Noting → List ℕ → Outcome
 outcome answer words = record { answer = answer; words = words }
 
--- the answer once start has moved
-abbrev pub settled : ℕ → Moved → Outcome
-settled after m = outcome (noted (m .start) after) (m .words)
+-- the answer once start has truncated
+abbrev pub afterMove : ℕ → Truncated → Outcome
+afterMove after m = outcome (noted (m .start) after) (m .words)
 
 -- 11 for "an id noted below the sequence's start", 12 for one "4,096 or more above it, or 2^64-1", with the words unchanged;
 -- else the id is stored, the highest raised, "then" start moves
@@ -90,4 +90,4 @@ noteOf s words id =
     pick (ltb id (s .start)) (outcome (refused 11 0) words)
     (pick (leb 4096 (id - s .start)) (outcome (refused 12 0) words)
     (pick (eqb id 18446744073709551615) (outcome (refused 12 0) words)
-    (settled (raised s id) (truncateOf (raised s id) (s .start) (stored s words id)))))
+    (afterMove (raised s id) (truncateOf (raised s id) (s .start) (stored s words id)))))

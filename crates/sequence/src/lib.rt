@@ -1,7 +1,7 @@
 // Which of the ids from a start on have been noted, in 64 words that the caller lends.
 ghost use mathlib.Core.Path.{_≡_};
 ghost use Prim.Native.Nat.{_-_, _<_};
-ghost use Rattle.sequence.specs.Sequence.{newOf, completeOf, paperNoted, noteOf, raised, moved, truncateOf};
+ghost use Rattle.sequence.specs.Sequence.{newOf, completeOf, paperNoted, noteOf, raised, truncated, truncateOf};
 
 mod words;
 
@@ -88,7 +88,7 @@ impl IdSequence {
 
 // The new start: while ids remain it moves past the first 64 of them, or all if fewer, if all are noted.
 fn truncate(words: &mut [u64; 64], from: u64, after: u64) -> u64
-    ensures { λ r. ⌜ moved r (now (words .exit)) ≡ truncateOf after from (now (words .entry)) ⌝ }
+    ensures { λ r. ⌜ truncated r (now (words .exit)) ≡ truncateOf after from (now (words .entry)) ⌝ }
 {
     let mut start = from;
     while start < after {

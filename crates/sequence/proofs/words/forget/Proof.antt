@@ -2,7 +2,7 @@
 use Prim.Native.Nat.{_-_}
 use native.Mathlib.Omega.{arith}
 use borrow.Author.Needs.{needs}
-use Rattle.sequence.proofs.Clearing.{Cleared, none-yet, one-more, all-cleared}
+use Rattle.sequence.proofs.Clearing.{Cleared, none-yet, one-word-cleared, all-cleared}
 use Rattle.sequence.proofs.words.forget.Statement.{statement}
 use Rattle.sequence.proofs.words.forget.Tie as tie
 
@@ -37,7 +37,7 @@ loop-less : tie.Need-loop-less Inv-loop μ-loop
 loop-less c = omega arith
 
 loop-again : tie.Need-loop-again Inv-loop μ-loop
-loop-again c = one-more (c .before .before .before .loop .inv) (omega arith) _ (c .mask .ensures)
+loop-again c = one-word-cleared (c .before .before .before .loop .inv) (omega arith) _ (c .mask .ensures)
 
 returns : tie.Need-returns Inv-loop μ-loop
 returns c = all-cleared (c .before .loop .inv) (omega arith)

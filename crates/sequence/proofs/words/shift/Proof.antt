@@ -1,4 +1,4 @@
--- `sequence::words::shift` meets its contract: the first i words have moved. Assumes nothing.
+-- `sequence::words::shift` meets its contract: the first i words have truncated. Assumes nothing.
 use Prim.Native.Nat.{_-_, _≤_}
 use native.Mathlib.Omega.{arith}
 use lib.ListN.{length, length-set}
