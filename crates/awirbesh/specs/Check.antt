@@ -1,6 +1,6 @@
 -- The numbers that stand for 01's answers to "Sound check" and "Recovery".
 use Rattle.log.specs.Check.{Checking, sound, refused}
-use Rattle.log.specs.Recover.{Recovering, recovered, refused as unrecovered}
+use Rattle.log.specs.Recovery.{Recovering, recovered, refused as unrecovered}
 use Rattle.awirbesh.specs.State.{stateNumbers}
 use Rattle.awirbesh.specs.declared.checking.CheckedNumbers.{CheckedNumbers}
 use Rattle.awirbesh.specs.declared.checking.RecoveredNumbers.{RecoveredNumbers}

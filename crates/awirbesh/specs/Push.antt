@@ -1,6 +1,6 @@
 -- The numbers that stand for 01's answer to "Push".
 use Prim.Native.Nat.{ℕ}
-use Rattle.log.specs.Push.{Why, none, refused, Answer}
+use Rattle.pushing.specs.Push.{Why, none, refused, Pushing}
 use Rattle.awirbesh.specs.State.{stateNumbers}
 use Rattle.awirbesh.specs.declared.writing.PushedNumbers.{PushedNumbers}
 
@@ -10,5 +10,5 @@ reasonNumber none = 0
 reasonNumber (refused number value) = number
 
 -- "The answer is the reason, the count of entries written and the state", after a refusal too
-abbrev pub pushedNumbers : Answer → PushedNumbers
+abbrev pub pushedNumbers : Pushing → PushedNumbers
 pushedNumbers a = record { number = reasonNumber (a .reason); written = a .written; state = stateNumbers (a .state) }

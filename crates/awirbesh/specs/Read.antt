@@ -3,11 +3,11 @@ use Prim.Native.Nat.{ℕ}
 use lib.Dec.{eqb}
 use Rattle.refusal.specs.Pick.{pick}
 use Rattle.log.specs.Lookup.{Looking, found, absent, refused}
-use Rattle.log.specs.Scan.{Beginning, at, refused as unstarted}
-use Rattle.log.specs.Step.{Stepping, entry, end, refused as unstepped}
-use Rattle.log.specs.declared.scanning.End.{End}
-use Rattle.log.specs.declared.scanning.End.the-variants.{Open, Included, Excluded}
-use Rattle.log.specs.declared.scanning.Range.{Range}
+use Rattle.scanning.specs.Scan.{Beginning, at, refused as unstarted}
+use Rattle.scanning.specs.Step.{Stepping, entry, end, refused as unstepped}
+use Rattle.scanning.specs.declared.End.{End}
+use Rattle.scanning.specs.declared.End.the-variants.{Open, Included, Excluded}
+use Rattle.scanning.specs.declared.Range.{Range}
 use Rattle.awirbesh.specs.declared.reading.EndNumbers.{EndNumbers}
 use Rattle.awirbesh.specs.declared.reading.RangeNumbers.{RangeNumbers}
 use Rattle.awirbesh.specs.declared.reading.LookNumbers.{LookNumbers}

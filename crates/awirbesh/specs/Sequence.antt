@@ -2,7 +2,7 @@
 use Prim.Native.Nat.{ℕ}
 use mathlib.Core.Bool.{Bool}
 use Rattle.refusal.specs.Pick.{pick}
-use Rattle.sequence.specs.Sequence.{Answer, noted, refused}
+use Rattle.sequence.specs.Sequence.{Noting, noted, refused}
 use Rattle.sequence.specs.declared.IdSequence.{IdSequence}
 use Rattle.awirbesh.specs.declared.sequences.SequenceNumbers.{SequenceNumbers}
 use Rattle.awirbesh.specs.declared.sequences.NotedNumbers.{NotedNumbers}
@@ -14,7 +14,7 @@ abbrev pub sequenceNumbers : IdSequence → SequenceNumbers
 sequenceNumbers s = record { start = s .start; after = s .after }
 
 -- the sequence after the note; a refusal leaves it as given
-abbrev pub notedNumbers : SequenceNumbers → Answer → NotedNumbers
+abbrev pub notedNumbers : SequenceNumbers → Noting → NotedNumbers
 notedNumbers given (noted start after) = record { number = 0; sequence = record { start = start; after = after } }
 notedNumbers given (refused number value) = record { number = number; sequence = given }
 

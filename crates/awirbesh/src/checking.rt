@@ -5,7 +5,7 @@ use log::Checked;
 use log::Recovered;
 ghost use mathlib.Core.Path.{_≡_};
 ghost use Rattle.log.specs.Check.{checkOf, paperChecked};
-ghost use Rattle.log.specs.Recover.{recoverOf, paperRecovered};
+ghost use Rattle.log.specs.Recovery.{recoverOf, paperRecovered};
 ghost use Rattle.awirbesh.specs.Check.{checkedNumbers, recoveredNumbers};
 
 #[repr(C)]

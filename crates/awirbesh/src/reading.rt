@@ -1,15 +1,15 @@
 // The lookup and the scan.
 use crate::state;
 use crate::state::StateNumbers;
-use log::End;
 use log::Look;
-use log::Range;
-use log::Started;
-use log::Stepped;
+use scanning::End;
+use scanning::Range;
+use scanning::Started;
+use scanning::Stepped;
 ghost use mathlib.Core.Path.{_≡_};
 ghost use Rattle.log.specs.Lookup.{findOf, lookupOf, paperLook};
-ghost use Rattle.log.specs.Scan.{scanOf, paperStarted};
-ghost use Rattle.log.specs.Step.{stepOf, paperStepped};
+ghost use Rattle.scanning.specs.Scan.{scanOf, paperStarted};
+ghost use Rattle.scanning.specs.Step.{stepOf, paperStepped};
 ghost use Rattle.awirbesh.specs.State.{stateFrom};
 ghost use Rattle.awirbesh.specs.Read.{endFrom, rangeFrom, lookNumbers, startedNumbers, steppedNumbers};
 
@@ -181,7 +181,7 @@ pub extern "C" fn awirbesh_scan(
 ) -> StartedNumbers
     ensures { λ r. ⌜ r ≡ startedNumbers (scanOf (now (store .entry)) (stateFrom state) (rangeFrom range)) ⌝ }
 {
-    started_numbers(log::scan(store, state::state_from(state), range_from(range)))
+    started_numbers(scanning::scan(store, state::state_from(state), range_from(range)))
 }
 
 #[no_mangle]
@@ -197,7 +197,7 @@ pub extern "C" fn awirbesh_step(
 {
     stepped_numbers(
         cursor,
-        log::step(
+        scanning::step(
             store,
             state::state_from(state),
             range_from(range),

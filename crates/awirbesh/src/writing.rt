@@ -1,10 +1,10 @@
 // The push of a batch.
 use crate::state;
 use crate::state::StateNumbers;
-use log::Pushed;
-use log::Reason;
+use pushing::Pushed;
+use pushing::Reason;
 ghost use mathlib.Core.Path.{_≡_};
-ghost use Rattle.log.specs.Push.{pushOf, paperReason, paperPushed};
+ghost use Rattle.pushing.specs.Push.{pushOf, paperReason, paperPushed};
 ghost use Rattle.awirbesh.specs.State.{stateFrom};
 ghost use Rattle.awirbesh.specs.Push.{reasonNumber, pushedNumbers};
 
@@ -47,5 +47,5 @@ pub extern "C" fn awirbesh_push(
     ensures { λ r. ⌜ r ≡ pushedNumbers (pushOf (now (store .entry)) (stateFrom state) (now (ids .entry)) (now (ends .entry)) (now (bytes .entry)) .answer) ⌝ }
     ensures { λ r. ⌜ now (store .exit) ≡ pushOf (now (store .entry)) (stateFrom state) (now (ids .entry)) (now (ends .entry)) (now (bytes .entry)) .store ⌝ }
 {
-    pushed_numbers(log::push(store, state::state_from(state), ids, ends, bytes))
+    pushed_numbers(pushing::push(store, state::state_from(state), ids, ends, bytes))
 }

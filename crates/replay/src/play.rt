@@ -1,15 +1,16 @@
 // Each kind of line: the library's answer is held to the Rust's.
 use crate::line::Line;
 use crate::sum;
-use log::End;
 use log::Look;
-use log::Range;
-use log::Reason;
 use log::Recovered;
-use log::Started;
 use log::State;
-use log::Stepped;
 use log::Taken;
+use page::Page;
+use pushing::Reason;
+use scanning::End;
+use scanning::Range;
+use scanning::Started;
+use scanning::Stepped;
 use sequence::IdSequence;
 use sequence::Noted;
 
@@ -141,7 +142,7 @@ pub fn push(
     if ends.len() < n {
         return judged(w, false);
     }
-    let pushed = log::push(store, state_of(w), &ids[..n], &ends[..n], pattern);
+    let pushed = pushing::push(store, state_of(w), &ids[..n], &ends[..n], pattern);
     let state = pushed.state;
     let mut after = w;
     after.length = state.length;
@@ -168,7 +169,7 @@ pub fn idle(w: World) -> World {
         return judged(w, false);
     }
     let mut after = w;
-    after.length = length + 1024;
+    after.length = length + (Page::SIZE as u64);
     after
 }
 
@@ -204,7 +205,7 @@ struct Seen {
 }
 
 fn one_step(seen: Seen, store: &[u8], state: State, range: Range, out: &mut [u8]) -> Seen {
-    let stepped = log::step(store, state, range, seen.cursor, out);
+    let stepped = scanning::step(store, state, range, seen.cursor, out);
     let mut after = seen;
     match stepped {
         Stepped::Entry { id, length, cursor } => {
@@ -246,7 +247,7 @@ pub fn scan(w: World, l: Line, store: &[u8], out: &mut [u8]) -> World {
         upper: high,
     };
     let state = state_of(w);
-    let started = log::scan(store, state, range);
+    let started = scanning::scan(store, state, range);
     match started {
         Started::At { cursor } => {
             let seen = all_steps(cursor, store, state, range, out);
@@ -259,7 +260,7 @@ pub fn scan(w: World, l: Line, store: &[u8], out: &mut [u8]) -> World {
 pub fn recover(w: World, l: Line, store: &[u8]) -> World {
     let excess = l.a;
     let length = w.length;
-    if 1024 <= excess {
+    if (Page::SIZE as u64) <= excess {
         return judged(w, false);
     }
     if 65536 < length {

@@ -1,6 +1,7 @@
 -- `awirbesh_lookup` meets its contract. Assumes nothing.
-use mathlib.Core.Path.{_≡_, ap, _∙_}
-use Rattle.log.specs.Lookup.{Looked}
+use mathlib.Core.Path.{ap, _∙_}
+use Rattle.log.specs.Output.{WithOutput}
+use Rattle.log.specs.Lookup.{Looking}
 use Rattle.awirbesh.specs.Read.{lookNumbers}
 use borrow.Author.Needs.{needs}
 use Rattle.awirbesh.proofs.reading.awirbesh_lookup.Statement.{statement}
@@ -21,7 +22,7 @@ same-length c = search needs
 returns : tie.Need-returns
 returns c =
     let e = rw (c .before .before .before .before .before .state-from .ensures) at (c .before .before .before .lookup .ensures) in
-    (c .look-numbers .ensures ∙ ap lookNumbers (ap (λ (x : Looked). x .answer) e), ap (λ (x : Looked). x .out) e)
+    (c .look-numbers .ensures ∙ ap lookNumbers (ap (λ (x : WithOutput Looking). x .answer) e), ap (λ (x : WithOutput Looking). x .out) e)
 
 pub awirbesh-lookup-spec : {M : Type 1} → statement M
 awirbesh-lookup-spec =

@@ -1,6 +1,7 @@
 -- `awirbesh_step` meets its contract. Assumes nothing.
-use mathlib.Core.Path.{_≡_, ap, _∙_}
-use Rattle.log.specs.Step.{Given}
+use mathlib.Core.Path.{ap, _∙_}
+use Rattle.log.specs.Output.{WithOutput}
+use Rattle.scanning.specs.Step.{Stepping}
 use Rattle.awirbesh.specs.Read.{steppedNumbers}
 use borrow.Author.Needs.{needs}
 use Rattle.awirbesh.proofs.reading.awirbesh_step.Statement.{statement}
@@ -24,7 +25,7 @@ same-length c = search needs
 returns : tie.Need-returns
 returns c =
     let e = rw (c .before .before .before .before .before .before .state-from .ensures, c .before .before .before .before .before .range-from .ensures) at (c .before .before .before .step .ensures) in
-    (c .stepped-numbers .ensures ∙ ap (steppedNumbers _) (ap (λ (x : Given). x .answer) e), ap (λ (x : Given). x .out) e)
+    (c .stepped-numbers .ensures ∙ ap (steppedNumbers _) (ap (λ (x : WithOutput Stepping). x .answer) e), ap (λ (x : WithOutput Stepping). x .out) e)
 
 pub awirbesh-step-spec : {M : Type 1} → statement M
 awirbesh-step-spec =

@@ -1,5 +1,5 @@
 -- `awirbesh_sequence_note` meets its contract. Assumes nothing.
-use mathlib.Core.Path.{_≡_, ap, _∙_}
+use mathlib.Core.Path.{ap, _∙_}
 use Rattle.awirbesh.specs.Sequence.{notedNumbers}
 use borrow.Author.Needs.{needs}
 use Rattle.awirbesh.proofs.sequences.awirbesh_sequence_note.Statement.{statement}

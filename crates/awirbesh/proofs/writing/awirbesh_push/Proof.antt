@@ -1,5 +1,5 @@
 -- `awirbesh_push` meets its contract. Assumes nothing.
-use mathlib.Core.Path.{_≡_, ap, _∙_}
+use mathlib.Core.Path.{ap, _∙_}
 use Rattle.awirbesh.specs.Push.{pushedNumbers}
 use borrow.Author.Needs.{needs}
 use Rattle.awirbesh.proofs.writing.awirbesh_push.Statement.{statement}
