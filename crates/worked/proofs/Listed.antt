@@ -2,25 +2,23 @@
 use mathlib.Core.Path.{_≡_, refl}
 use mathlib.Core.Bool.{Bool, true, false}
 use mathlib.Core.List.{List, [], _∷_, _++_}
-use Prim.Native.Nat.{ℕ, _+_}
-use lib.ListN.{length, replicate, take, drop, getD}
-use Rattle.page.specs.Tab.{tab}
+use Prim.Native.Nat.{ℕ}
+use lib.ListN.{replicate, take, drop}
 use Rattle.page.specs.Size.{pagesFor, pageAt}
 use Rattle.page.specs.Bytes.{numberAt, bytesOf}
 use Rattle.page.specs.Mark.{markAt}
 use Rattle.page.specs.Entry.{lengthAt, idAt, entryAt}
-use Rattle.page.specs.Data.{placeOf, dataOf, dataAt}
 use Rattle.page.specs.Write.{blank, firstPage, laterPage, laterPages, laterImage, entryPages, entryImage}
 use Rattle.log.specs.Bounds.{tooLong, badState}
 use Rattle.log.specs.State.{fresh, stateOf}
 use Rattle.log.specs.Guess.{leastFrom, leastShift, offsetOf}
-use Rattle.log.specs.Lookup.{Looking, found, absent, refused, allPages, guessIn, compared, met, walk, round, search, searchOf, findOf}
-use Rattle.log.specs.Recover.{Recovering, recovered, refused as unrecovered, atLast, walkBack, recoverLog, recoverOf}
-use Rattle.log.specs.Push.{Why, none, refused as unpushed, Done, entryData, some, badEnd, badBatch, largeData, someLarge, wrote, placed, turn, entriesFrom, pushOf}
+use Rattle.log.specs.Lookup.{Looking, found, absent, refused, allPages, guessIn, compared, sayingAt, turned, walk, search, searchOf, findOf}
+use Rattle.log.specs.Recovery.{Recovering, recovered, refused as unrecovered, atLast, walkBack, recoverLog, recoverOf}
+use Rattle.pushing.specs.Push.{Why, none, refused as unpushed, Done, entryData, some, badEnd, badBatch, largeData, someLarge, wrote, writing, turn, entriesFrom, pushOf}
 use Rattle.log.specs.declared.state.State.{State}
 use Rattle.sequence.specs.Window.{only, shifted}
-use Rattle.sequence.specs.Sequence.{newOf, completeOf, rounds, noteOf}
-use Rattle.sequence.specs.History.{History, begun, answered, step, run}
+use Rattle.sequence.specs.Sequence.{completeOf, rounds, noteOf}
+use Rattle.sequence.specs.History.{begun, answered, run}
 
 -- ---- answers as numbers
 
@@ -69,7 +67,7 @@ abbrev sixPush : Done
 sixPush = pushOf (replicate 6144 0) fresh (1 ∷ 2 ∷ 3 ∷ 4 ∷ []) (replicate 4 2992) (replicate 2992 0x78)
 
 -- page 0 holding id 9, and six bytes more
-abbrev ninePage : List ℕ
+abbrev pub ninePage : List ℕ
 ninePage = entryPages blank 9 hello ++ replicate 6 0
 
 -- complete after each of the notes 3, 1, 2, 4 from 1
@@ -124,5 +122,5 @@ asWritten =
 
 -- THE M CASES: what the definitions compute is what 01 says
 pub worked : computed ≡ asWritten
-unfolding computed asWritten ofState ofLook ofWhy ofPush ofRecovery ofAnswer pagesFor pageAt numberAt bytesOf markAt lengthAt idAt entryAt blank firstPage laterPage laterPages laterImage entryPages entryImage tooLong badState leastFrom leastShift offsetOf compared met walk round search searchOf findOf atLast walkBack recoverLog recoverOf entryData some badEnd badBatch largeData someLarge wrote placed turn entriesFrom pushOf only shifted rounds noteOf answered run
+unfolding computed asWritten ofState ofLook ofWhy ofPush ofRecovery ofAnswer pagesFor pageAt numberAt bytesOf markAt lengthAt idAt entryAt blank firstPage laterPage laterPages laterImage entryPages entryImage tooLong badState leastFrom leastShift offsetOf compared sayingAt turned walk search searchOf findOf atLast walkBack recoverLog recoverOf entryData some badEnd badBatch largeData someLarge wrote writing turn entriesFrom pushOf only shifted rounds noteOf answered run
 worked = refl

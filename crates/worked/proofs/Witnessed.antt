@@ -1,30 +1,35 @@
 -- The theorems are about something: a sound log of several entries with an idle page, and a history in which one settled id is found and another absent. Assumes nothing.
-use Prim.Native.Nat.{ℕ, zero, suc, _+_, _^_, _≤_, _<_}
+use Prim.Native.Nat.{ℕ, _≤_, _<_}
 use mathlib.Core.Path.{_≡_, refl}
 use mathlib.Core.Logic.{⊎-elim}
-use mathlib.Core.List.{List, [], _∷_, _++_}
+use mathlib.Core.List.{List, [], _∷_, _++_, List·Memᴰ·head}
 use native.Mathlib.Omega.{arith}
 use lib.Dec.{lit<, lit≤}
-use lib.ListN.{length, getD, take, drop, replicate}
-use Rattle.page.specs.Size.{pagesFor, pageAt}
+use lib.ListN.{length, take, drop, replicate}
+use Rattle.page.specs.Size.{pagesFor, pageCount, pageAt}
 use Rattle.page.specs.Bytes.{numberAt, bytesOf}
 use Rattle.page.specs.Mark.{markAt}
 use Rattle.page.specs.Entry.{lengthAt, idAt, entryAt}
 use Rattle.page.specs.Data.{placeOf, dataOf, dataAt}
-use Rattle.page.specs.Write.{blank, firstPage, laterPage, laterPages, laterImage, entryPages, entryImage}
-use Rattle.log.specs.Bounds.{tooLong, badState}
-use Rattle.log.specs.State.{stateOf, takeOf}
-use Rattle.log.specs.Sound.{Start, Sound, Last}
+use Rattle.page.specs.Write.{blank, firstPage, laterPage, laterPages, entryPages}
+use Rattle.log.specs.Round.{stop, again}
+use Rattle.log.specs.Bounds.{tooLong, badState, Fits}
+use Rattle.log.specs.State.{stateOf}
+use Rattle.demands.specs.Sound.{Sound, SoundStore, Last}
+use Rattle.demands.specs.Recovery.{RightRecovery}
+use Rattle.demands.specs.Lookup.{present, missing, AnyGuess, stops, narrows}
 use Rattle.log.specs.Guess.{leastFrom, leastShift, offsetOf}
-use Rattle.log.specs.Lookup.{found, absent, looked, compared, met, walk, round, search, searchOf, findOf, handed, lookupOf}
-use Rattle.log.specs.Check.{sound, laterPages as checkLater, atStart, atPage, atEnd, checkFrom, checkOf}
-use Rattle.log.specs.Recover.{recovered, atLast, walkBack, recoverLog, recoverOf}
-use Rattle.log.specs.Push.{entryData, some, badEnd, badBatch, largeData, someLarge, wrote, placed, turn, entriesFrom, pushOf}
-use Rattle.log.specs.World.{World, world, logOf, Words, Call, push, take-id, lookup, recover, looked-up, answer, step, run, Begun, Settled, KeepsFirst}
+use Rattle.log.specs.Lookup.{found, roundFrom, window, allPages, compared, sayingAt, turned, walk, search, searchOf, findOf}
+use Rattle.log.specs.Check.{laterMarks, checkStart, checkPage, checkEnd, checkFrom, checkOf}
+use Rattle.log.specs.Recovery.{atLast, walkBack, recoverLog, recoverOf}
+use Rattle.demands.specs.History.{World, world, logOf, Call, lookup, answer, run, Begun, Settled, LooksUp, said, Gives, find}
 use Rattle.refusal.proofs.Cases.{order}
-use Rattle.log.proofs.Passing.{checked-sound}
-use Rattle.log.proofs.Lasting.{handedData}
-use Rattle.log.proofs.Demands.{begun-settled, settled}
+use Rattle.page.proofs.Runs.{data-one-part}
+use Rattle.demands.proofs.Check.Passing.{checked-sound}
+use Rattle.demands.proofs.Recovery.Resuming.{recover-right}
+use Rattle.demands.proofs.History.Lasting.{standingData}
+use Rattle.demands.proofs.History.Demands.{begun-settled, settled}
+use Rattle.worked.proofs.Listed.{ninePage}
 
 -- ---- a sound log: id 1 with a byte, an idle page, id 3 on two pages
 
@@ -39,10 +44,10 @@ abbrev store : List ℕ
 store = entryPages blank 1 oneByte ++ (replicate 1024 0 ++ (entryPages blank 3 twoPages ++ replicate 2048 0))
 
 pub store-is-sound : Sound (take 4096 store)
-unfolding pagesFor pageAt numberAt bytesOf markAt lengthAt idAt entryAt blank firstPage laterPage laterPages entryPages tooLong checkLater atStart atPage atEnd checkFrom checkOf
-store-is-sound = checked-sound store 4096 .0 refl .sound-log
+unfolding pagesFor pageAt numberAt bytesOf markAt lengthAt idAt entryAt blank firstPage laterPage laterPages entryPages tooLong laterMarks checkStart checkPage checkEnd checkFrom checkOf
+store-is-sound = checked-sound store 4096 .0 refl .sound
 
--- ---- its recovered state, with the ids 4 and 5 taken since by what-if sessions
+-- ---- its recovered state
 
 abbrev begins : World
 begins = world store (stateOf 4096 3 4)
@@ -70,11 +75,51 @@ settled-there id some most = begun-settled begins begins-there 2 id last-there s
 
 -- ---- id 3 is found and id 2 is absent, through any calls
 
-pub three-stays-found : (later : List Call) (out : List ℕ) → 1013 ≤ length out
-    → answer (run begins later) (lookup 3 out) ≡ looked-up (looked (found 2048 1013) (replicate 1013 9 ++ drop 1013 out))
-unfolding pagesFor pageAt numberAt bytesOf markAt lengthAt idAt entryAt placeOf dataOf dataAt blank firstPage laterPage laterPages entryPages tooLong badState leastFrom leastShift offsetOf compared met walk round search searchOf findOf handedData settled run
-three-stays-found later out enough = settled begins begins-there [] 3 (settled-there 3 (lit≤ tt) (lit≤ tt)) .kept later .answers out enough
+pub three-stays-found : (later : List Call) (out : List ℕ) → 1013 ≤ length out → LooksUp (answer (run begins later) (lookup 3 out)) (present 2048 1013) (replicate 1013 9 ++ drop 1013 out)
+unfolding pagesFor pageAt numberAt bytesOf markAt lengthAt idAt entryAt placeOf dataOf dataAt blank firstPage laterPage laterPages entryPages tooLong badState leastFrom leastShift offsetOf compared sayingAt turned walk search searchOf findOf standingData settled run
+three-stays-found later out enough = settled begins begins-there [] 3 (settled-there 3 (lit≤ tt) (lit≤ tt)) .kept later .answers (lookup 3 out) refl enough
 
-pub two-stays-absent : (later : List Call) (out : List ℕ) → answer (run begins later) (lookup 2 out) ≡ looked-up (looked (absent 2048) out)
-unfolding pagesFor pageAt numberAt bytesOf markAt lengthAt idAt entryAt blank firstPage laterPage laterPages entryPages tooLong badState leastFrom leastShift offsetOf compared met walk round search searchOf findOf handedData settled run
-two-stays-absent later out = settled begins begins-there [] 2 (settled-there 2 (lit≤ tt) (lit≤ tt)) .kept later .answers out (omega arith)
+pub two-stays-absent : (later : List Call) (out : List ℕ) → LooksUp (answer (run begins later) (lookup 2 out)) (missing 2048) out
+unfolding pagesFor pageAt numberAt bytesOf markAt lengthAt idAt entryAt blank firstPage laterPage laterPages entryPages tooLong badState leastFrom leastShift offsetOf compared sayingAt turned walk search searchOf findOf standingData settled run
+two-stays-absent later out = settled begins begins-there [] 2 (settled-there 2 (lit≤ tt) (lit≤ tt)) .kept later .answers (lookup 2 out) refl (omega arith)
+
+-- a lookup and a search that are among the later calls gave it
+pub three-was-given : Gives (find 3) (answer begins (find 3)) 3 (present 2048 1013) (replicate 1013 9)
+unfolding pagesFor pageAt numberAt bytesOf markAt lengthAt idAt entryAt placeOf dataOf dataAt blank firstPage laterPage laterPages entryPages tooLong badState leastFrom leastShift offsetOf compared sayingAt turned walk search searchOf findOf standingData settled run said
+three-was-given = settled begins begins-there [] 3 (settled-there 3 (lit≤ tt) (lit≤ tt)) .gave (find 3 ∷ []) (record { call = find 3; reply = answer begins (find 3) }) (List·Memᴰ·head refl)
+
+-- ---- guesses that are not 01's come to the same answer: the first of all pages, and then the last of those left
+
+first-round : roundFrom (logOf begins) 3 (allPages (logOf begins) 4) 0 ≡ again (window 1 4 1 4)
+unfolding pagesFor pageAt numberAt bytesOf markAt lengthAt idAt entryAt blank firstPage laterPage laterPages entryPages compared sayingAt turned walk
+first-round = refl
+
+second-round : roundFrom (logOf begins) 3 (window 1 4 1 4) 3 ≡ stop (found 2048 1013)
+unfolding pagesFor pageAt numberAt bytesOf markAt lengthAt idAt entryAt blank firstPage laterPage laterPages entryPages compared sayingAt turned walk
+second-round = refl
+
+some-pages : 0 < pageCount (logOf begins)
+unfolding pagesFor bytesOf blank firstPage laterPage laterPages entryPages
+some-pages = lit< tt
+
+pub other-guesses : AnyGuess (logOf begins) 3 (allPages (logOf begins) 4) (found 2048 1013)
+other-guesses = narrows (allPages (logOf begins) 4) (window 1 4 1 4) 0 (found 2048 1013) (omega arith) some-pages first-round (stops (window 1 4 1 4) 3 (found 2048 1013) (lit≤ tt) (lit< tt) second-round)
+
+-- ---- a length with an excess: 1,030 bytes of which page 0 holds id 9 lie inside `recover-right`
+
+nine-sound : SoundStore ninePage 1024
+unfolding pagesFor pageAt numberAt bytesOf markAt lengthAt idAt entryAt blank firstPage laterPage laterPages entryPages tooLong laterMarks checkStart checkPage checkEnd checkFrom checkOf
+nine-sound = checked-sound ninePage 1024 .0 refl
+
+nine-fits : Fits ninePage 1030
+unfolding pagesFor bytesOf blank firstPage laterPage laterPages entryPages
+nine-fits = record { small = nine-sound .fits .small; inside = lit≤ tt }
+
+pub excess-recovers : RightRecovery (take 1024 ninePage) 6 (recoverOf ninePage 1030)
+excess-recovers = recover-right ninePage 1030 nine-fits (nine-sound .sound)
+
+-- ---- the data of that entry is a part of its page, and of the log
+
+pub five-bytes : dataAt ninePage 0 5 ≡ take 5 (drop 12 ninePage)
+unfolding pagesFor bytesOf blank firstPage laterPage laterPages entryPages
+five-bytes = data-one-part ninePage 0 5 (lit≤ tt) (lit< tt)

@@ -1,130 +1,97 @@
 // 01, "Id sequence": nebari's own tests, the window's edges, and ids noted twice.
 ghost use Prim.Native.Nat.{_+_, _<_};
+use crate::parts::letter;
+use crate::parts::number;
 use crate::say;
+use crate::script;
 use sequence::IdSequence;
 use sequence::Noted;
 
 pub fn run() {
-    three_one_two_four();
-    downwards(0, 66);
-    downwards(1, 1024);
-    window();
-    last_ids();
-    twice();
+    script::run(
+        b"grow 1 3 1 2 4
+down 0 66
+down 1 1024
+junk 5 4100
+junk 5 4101
+junk 5 4
+junk 5 18446744073709551615
+down 7 4096
+down 7 4097
+grow 5 6 4 4101 5
+grow 5 5 4101 4102
+grow 18446744073709551614 18446744073709551614 18446744073709551615 18446744073709551614
+junk 18446744073709551615 18446744073709551615 18446744073709551614
+down 18446744073709551515 100
+grow 1 3 3 1 2 3 1
+",
+    );
     by_blocks();
-    made_up_words();
+    say::text(b"words all ones, ");
+    junk(b"junk 1 3 1 2 1000");
 }
 
-fn three_one_two_four() {
+// "grow START IDS": a new sequence, and up to six ids noted one after the other.
+pub fn grow(line: &[u8]) {
     let mut words = [0u64; 64];
-    let a = begin(1);
-    let b = note(a, &mut words, 3);
-    let c = note(b, &mut words, 1);
-    let d = note(c, &mut words, 2);
-    end(note(d, &mut words, 4));
+    sequence(&mut words, line);
 }
 
-// A new sequence, and the ids from first + count - 1 down to first.
-fn downwards(first: u64, count: u64)
-    requires { ⌜ first + count < 18446744073709551616 ⌝ }
-{
-    let mut words = [0u64; 64];
-    end(note_down(begin(first), &mut words, first, count));
+// "junk START IDS": the same where what the words held before is nobody's note.
+pub fn junk(line: &[u8]) {
+    let mut words = [18446744073709551615u64; 64];
+    sequence(&mut words, line);
 }
 
-fn window() {
-    let mut words = [0u64; 64];
-    end(note(begin(5), &mut words, 4100));
-    end(note(begin(5), &mut words, 4101));
-    end(note(begin(5), &mut words, 4));
-    end(note(begin(5), &mut words, 18446744073709551615));
-    downwards(7, 4096);
-    downwards(7, 4097);
-    refusals_change_nothing();
-    moves_with_start();
+fn sequence(words: &mut [u64; 64], line: &[u8]) {
+    end(notes(begin(number(line, 1)), words, line));
 }
 
-fn refusals_change_nothing() {
+// "down FIRST COUNT": a new sequence, and the ids from first + count - 1 down to first.
+pub fn down(line: &[u8]) {
     let mut words = [0u64; 64];
-    let a = note(begin(5), &mut words, 6);
-    let b = note(a, &mut words, 4);
-    let c = note(b, &mut words, 4101);
-    end(note(c, &mut words, 5));
-}
-
-fn moves_with_start() {
-    let mut words = [0u64; 64];
-    let a = note(begin(5), &mut words, 5);
-    let b = note(a, &mut words, 4101);
-    end(note(b, &mut words, 4102));
-}
-
-// A start near 2^64.
-fn last_ids() {
-    let mut words = [0u64; 64];
-    let a = note(
-        begin(18446744073709551614),
-        &mut words,
-        18446744073709551614,
-    );
-    let b = note(a, &mut words, 18446744073709551615);
-    end(note(b, &mut words, 18446744073709551614));
-    let c = note(
-        begin(18446744073709551615),
-        &mut words,
-        18446744073709551615,
-    );
-    end(note(c, &mut words, 18446744073709551614));
-    downwards(18446744073709551515, 100);
-}
-
-// Ids noted again, before and after start passes them.
-fn twice() {
-    let mut words = [0u64; 64];
-    let a = note(begin(1), &mut words, 3);
-    let b = note(a, &mut words, 3);
-    let c = note(b, &mut words, 1);
-    let d = note(c, &mut words, 2);
-    let e = note(d, &mut words, 3);
-    end(note(e, &mut words, 1));
+    let first = number(line, 1);
+    let count = number(line, 2);
+    if count <= 18446744073709551615 - first {
+        end(note_down(begin(first), &mut words, first, count));
+    }
 }
 
 // Start moves by the first 64 that remain, or by all if fewer: until then an id noted again is no refusal.
 fn by_blocks() {
     let mut words = [0u64; 64];
-    let a = note(begin(1), &mut words, 66);
-    let b = note(a, &mut words, 1);
-    let c = note(b, &mut words, 1);
-    end(c);
+    let a = notes(begin(1), &mut words, b"grow 1 66 1 1");
+    end(a);
     say::text(b"that sequence");
-    let d = note_down(c, &mut words, 2, 63);
-    end(d);
+    let b = note_down(a, &mut words, 2, 63);
+    end(b);
     say::text(b"that sequence");
-    end(note(d, &mut words, 65));
-}
-
-// What the words held before is nobody's note.
-fn made_up_words() {
-    let mut words = [18446744073709551615u64; 64];
-    say::text(b"words all ones, ");
-    let a = note(begin(1), &mut words, 3);
-    let b = note(a, &mut words, 1);
-    let c = note(b, &mut words, 2);
-    end(note(c, &mut words, 1000));
+    end(note(b, &mut words, 65));
 }
 
 fn begin(start: u64) -> IdSequence {
-    say::text(b"sequence from ");
-    say::number(start);
     let s = IdSequence::new(start);
+    say::one(b"sequence from #", start);
     complete(s);
     s
 }
 
+// Says what noting each id of a line gives.
+fn notes(s: IdSequence, words: &mut [u64; 64], line: &[u8]) -> IdSequence {
+    let mut sequence = s;
+    let mut k: usize = 2;
+    while k < 8 {
+        if letter(line, k, 0) != 0 {
+            sequence = note(sequence, words, number(line, k));
+        }
+        k += 1;
+    }
+    sequence
+}
+
 // Says what noting an id gives; a refusal leaves the sequence.
 fn note(s: IdSequence, words: &mut [u64; 64], id: u64) -> IdSequence {
-    say::text(b"; note ");
-    say::number(id);
+    say::one(b"; note #", id);
     match s.note(words, id) {
         Noted::At(next) => {
             complete(next);
@@ -183,31 +150,18 @@ fn tally_down(s: IdSequence, words: &mut [u64; 64], first: u64, count: u64) -> T
 fn note_down(s: IdSequence, words: &mut [u64; 64], first: u64, count: u64) -> IdSequence
     requires { ⌜ first + count < 18446744073709551616 ⌝ }
 {
-    say::text(b"; note ");
-    say::number(count);
-    say::text(b" ids down to ");
-    say::number(first);
     let t = tally_down(s, words, first, count);
-    say::text(b": no ");
-    say::number(t.no);
-    say::text(b", yes ");
-    say::number(t.yes);
-    say::text(b", refused ");
-    say::number(t.refused);
+    say::two(b"; note # ids down to #", count, first);
+    say::two(b": no #, yes #", t.no, t.yes);
+    say::one(b", refused #", t.refused);
     complete(t.sequence);
     t.sequence
 }
 
 fn complete(s: IdSequence) {
-    if s.complete() {
-        say::text(b", complete yes");
-    } else {
-        say::text(b", complete no");
-    }
+    say::either(b", complete yes|, complete no", s.complete());
 }
 
 fn end(s: IdSequence) {
-    say::text(b"; start ");
-    say::number(s.start);
-    say::text(b"\n");
+    say::one(b"; start #\n", s.start);
 }

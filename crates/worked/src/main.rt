@@ -3,9 +3,11 @@ mod building;
 mod ids;
 mod lookups;
 mod pages;
+mod parts;
 mod pushes;
 mod say;
 mod scans;
+mod script;
 mod tails;
 
 fn main() {

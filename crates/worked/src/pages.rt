@@ -5,11 +5,11 @@ ghost use mathlib.Core.Path.{_≡_};
 ghost use lib.ListN.{length};
 
 fn count(n: usize) {
-    say::text(b"a payload of ");
-    say::number(n as u64);
-    say::text(b" bytes takes ");
-    say::number(Page::count(n) as u64);
-    say::text(b" pages\n");
+    say::two(
+        b"a payload of # bytes takes # pages\n",
+        n as u64,
+        Page::pages_for(n) as u64,
+    );
 }
 
 // A page whose every byte can be told from what is written.
@@ -33,12 +33,10 @@ fn zeros(bytes: &[u8]) -> u64 {
 }
 
 // The bytes of a page up to the end of "hello", and how many zeros come after them.
-fn show(page: &[u8]) {
+pub fn show(page: &[u8]) {
     if 17 <= page.len() {
         say::bytes(&page[..17]);
-        say::text(b"and ");
-        say::number(zeros(&page[17..]));
-        say::text(b" zeros\n");
+        say::one(b"and # zeros\n", zeros(&page[17..]));
     }
 }
 

@@ -1,360 +1,315 @@
 // Pushes onto small stores: 01's cases, every refusal of a batch, full stores, long payloads and a batch of 1,000 entries.
+use crate::building;
+use crate::building::is_mixed;
+use crate::lookups::answer;
+use crate::pages::show;
+use crate::parts::is_all;
+use crate::parts::letter;
+use crate::parts::number;
+use crate::parts::part;
 use crate::say;
+use crate::script;
+use crate::tails::say_recovered;
 use log::Look;
-use log::Pushed;
-use log::Reason;
 use log::State;
 use page::Page;
+use pushing::Pushed;
+use pushing::Reason;
+ghost use Prim.Native.Nat.{_<_, _≤_};
 ghost use mathlib.Core.Path.{_≡_};
 ghost use lib.ListN.{length};
 
 pub fn run() {
-    hello();
-    orders();
-    no_room();
-    batches();
-    states();
-    last_id();
-    boundaries();
+    script::run(
+        b"name push (1, hello), (2, none) from the fresh state
+entries 0 0 hello 1 2 - 5 5 -
+hex 0
+hex 1
+untouched
+query 1
+name last written 5, push 6, 6
+entries 0 5  6 6 - 0 0 -
+untouched
+name last written 5, push 5
+entries 0 5 x 5 - - 1 - -
+untouched
+name push 0
+entries 0 0  0 - - 0 - -
+untouched
+name push 3, 2, 4
+entries 0 0 xyz 3 2 4 1 2 3
+untouched
+fill 255
+state 0 0 1
+name two pages, push 1 with 5 bytes and 2 with 1013
+long 2048 - - 1 2 - 5 1018 -
+untouched
+name   push 2 with 1 byte after that
+long 2048 - - 2 - - 1 - -
+name   push 3 with 1012 bytes after that
+long 2048 - - 3 - - 1012 - -
+name   push 4, 2 after that
+long 2048 - - 4 2 - 0 0 -
+name an empty batch
+entries 0 0 ignored - - - - - -
+untouched
+name two ids and one end
+entries 0 0 xyz 1 2 - 1 - -
+untouched
+name one id and two ends
+entries 0 0 xyz 1 - - 1 2 -
+untouched
+name ends that fall, 2 then 1
+entries 0 0 xyz 1 2 - 2 1 -
+untouched
+name an end beyond the data
+entries 0 0 xyz 1 2 - 1 4 -
+untouched
+name an end of 2^64-1
+entries 0 0 xyz 1 - - 18446744073709551615 - -
+untouched
+name bytes after the last end
+entries 0 0 xyz 1 - - 1 - -
+untouched
+name a length of 1000, push 0 with a bad end
+entries 1000 0  0 - - 9 - -
+untouched
+name a length of 5120 in 4096 bytes
+entries 5120 0  1 - - 0 - -
+name push 2^64-1
+entries 0 0 ab 18446744073709551615 - - 2 - -
+yields
+fill 255
+state 0 0 1
+name push 1 with 1011 bytes
+long 4096 - - 1 - - 1011 - -
+untouched
+verify 1011
+fill 255
+state 0 0 1
+name push 1 with 1012 bytes
+long 4096 - - 1 - - 1012 - -
+untouched
+verify 1012
+fill 255
+state 0 0 1
+name push 1 with 1013 bytes
+long 4096 - - 1 - - 1013 - -
+untouched
+verify 1013
+fill 255
+state 0 0 1
+name push 1 with 1014 bytes
+long 4096 - - 1 - - 1014 - -
+untouched
+verify 1014
+fill 255
+state 0 0 1
+name push 1 with 2034 bytes
+long 4096 - - 1 - - 2034 - -
+untouched
+verify 2034
+fill 255
+state 0 0 1
+name push 1 with 2035 bytes
+long 4096 - - 1 - - 2035 - -
+untouched
+verify 2035
+fill 255
+state 0 0 1
+name push 1 with 2036 bytes
+long 4096 - - 1 - - 2036 - -
+untouched
+verify 2036
+fill 255
+state 0 0 1
+name push 1 with 2037 bytes
+long 4096 - - 1 - - 2037 - -
+untouched
+verify 2037
+",
+    );
     thousand();
-}
-
-// Four pages whose every byte can be told from what is written.
-fn four_pages() -> [u8; 4096]
-    ensures { λ r. ⌜ length r ≡ 4096 ⌝ }
-{
-    [0xff; 4096]
-}
-
-fn two_pages() -> [u8; 2048]
-    ensures { λ r. ⌜ length r ≡ 2048 ⌝ }
-{
-    [0xff; 2048]
-}
-
-fn untouched(bytes: &[u8]) -> bool {
-    let mut i: usize = 0;
-    while i < bytes.len() {
-        if bytes[i] != 0xff {
-            return false;
-        }
-        i += 1;
-    }
-    true
 }
 
 // Says whether no byte from a place on was touched.
 fn rest(store: &[u8], from: usize) {
     if from <= store.len() {
-        if untouched(&store[from..]) {
-            say::text(b"  no byte after that is touched\n");
-        } else {
-            say::text(b"  bytes after that are touched\n");
-        }
+        say::either(
+            b"  no byte after that is touched\n|  bytes after that are touched\n",
+            is_all(&store[from..], 0xff),
+        );
     }
 }
 
 // Says what a push answered.
 fn outcome(pushed: Pushed) {
-    say::number(pushed.written);
-    say::text(b" written, ");
     let reason = pushed.reason;
+    say::one(b"# written, ", pushed.written);
+    why(reason);
+    say::state(b"; state #, #, #\n", pushed.state);
+}
+
+fn why(reason: Reason) {
     match reason {
         Reason::None => say::text(b"no refusal"),
         Reason::Refused(refusal) => say::refusal(refusal),
     }
-    let state = pushed.state;
-    say::text(b"; state ");
-    say::number(state.length);
-    say::text(b", ");
-    say::number(state.last);
-    say::text(b", ");
-    say::number(state.next);
-    say::text(b"\n");
-}
-
-// Pushes onto four pages that hold nothing yet, from a state, and says what that answered.
-fn attempt(state: State, ids: &[u64], ends: &[u64], bytes: &[u8]) {
-    let mut store = four_pages();
-    let pushed = log::push(&mut store, state, ids, ends, bytes);
-    outcome(pushed);
-    rest(&store, pushed.state.length as usize);
-}
-
-// The bytes of page p up to the end of "hello", and whether the rest are zeros.
-fn show(store: &[u8], p: usize) {
-    let blank = Page::blank();
-    let pages = store.len() / Page::SIZE;
-    if p < pages {
-        let from = p * Page::SIZE;
-        let seam = from + 17;
-        let end = from + Page::SIZE;
-        say::bytes(&store[from..seam]);
-        if same(&store[seam..end], &blank[17..]) {
-            say::text(b"and 1007 zeros\n");
-        } else {
-            say::text(b"and others\n");
-        }
-    }
-}
-
-fn hello() {
-    let mut store = four_pages();
-    say::text(b"push (1, hello), (2, none) from the fresh state: ");
-    let pushed = log::push(&mut store, State::fresh(), &[1, 2], &[5, 5], b"hello");
-    outcome(pushed);
-    say::text(b"  page 0: ");
-    show(&store, 0);
-    say::text(b"  page 1: ");
-    show(&store, 1);
-    rest(&store, 2048);
-    say::text(b"  a lookup of 1: ");
-    position(log::find(&store, pushed.state, 1));
-}
-
-fn position(look: Look) {
-    match look {
-        Look::Found {
-            position,
-            length: _,
-        } => {
-            say::text(b"found at ");
-            say::number(position);
-        }
-        Look::Absent { position } => {
-            say::text(b"absent at ");
-            say::number(position);
-        }
-        Look::Refused(refusal) => say::refusal(refusal),
-    }
-    say::text(b"\n");
-}
-
-fn written_to(last: u64) -> State {
-    State {
-        length: 0,
-        last,
-        next: 1,
-    }
-}
-
-fn orders() {
-    say::text(b"last written 5, push 6, 6: ");
-    attempt(written_to(5), &[6, 6], &[0, 0], b"");
-    say::text(b"last written 5, push 5: ");
-    attempt(written_to(5), &[5], &[1], b"x");
-    say::text(b"push 0: ");
-    attempt(State::fresh(), &[0], &[0], b"");
-    say::text(b"push 3, 2, 4: ");
-    attempt(State::fresh(), &[3, 2, 4], &[1, 2, 3], b"xyz");
 }
 
 // Pushes onto a store, says what that answered, and hands on the state.
 fn further(store: &mut [u8], state: State, ids: &[u64], ends: &[u64], bytes: &[u8]) -> State {
-    let pushed = log::push(store, state, ids, ends, bytes);
+    let pushed = pushing::push(store, state, ids, ends, bytes);
     outcome(pushed);
     pushed.state
 }
 
-// Two pages for three: the last page of the last entry does not fit.
-fn cut_short(store: &mut [u8], bytes: &[u8]) -> State {
-    say::text(b"two pages, push 1 with 5 bytes and 2 with 1013: ");
-    let first = further(store, State::fresh(), &[1, 2], &[5, 1018], bytes);
-    rest(store, 1024);
-    say::text(b"  push 2 with 1 byte after that: ");
-    further(store, first, &[2], &[1], bytes)
-}
-
-fn fill_up(store: &mut [u8], state: State, bytes: &[u8]) {
-    say::text(b"  push 3 with 1012 bytes after that: ");
-    let third = further(store, state, &[3], &[1012], bytes);
-    say::text(b"  push 4, 2 after that: ");
-    further(store, third, &[4, 2], &[0, 0], bytes);
-}
-
-fn no_room() {
-    let mut store = two_pages();
-    let bytes = io::buffer();
-    let state = cut_short(&mut store, &bytes);
-    fill_up(&mut store, state, &bytes);
-}
-
-fn batches() {
-    counts();
-    ends();
-}
-
-fn counts() {
-    say::text(b"an empty batch: ");
-    attempt(State::fresh(), &[], &[], b"ignored");
-    say::text(b"two ids and one end: ");
-    attempt(State::fresh(), &[1, 2], &[1], b"xyz");
-    say::text(b"one id and two ends: ");
-    attempt(State::fresh(), &[1], &[1, 2], b"xyz");
-}
-
-fn ends() {
-    say::text(b"ends that fall, 2 then 1: ");
-    attempt(State::fresh(), &[1, 2], &[2, 1], b"xyz");
-    say::text(b"an end beyond the data: ");
-    attempt(State::fresh(), &[1, 2], &[1, 4], b"xyz");
-    say::text(b"an end of 2^64-1: ");
-    attempt(State::fresh(), &[1], &[0xffff_ffff_ffff_ffff], b"xyz");
-    say::text(b"bytes after the last end: ");
-    attempt(State::fresh(), &[1], &[1], b"xyz");
-}
-
-// Refusal 1 comes before 13 and 2.
-fn states() {
-    say::text(b"a length of 1000, push 0 with a bad end: ");
-    let uneven = State {
-        length: 1000,
-        last: 0,
-        next: 1,
-    };
-    attempt(uneven, &[0], &[9], b"");
-    say::text(b"a length of 5120 in 4096 bytes: ");
-    let long = State {
-        length: 5120,
-        last: 0,
-        next: 1,
-    };
-    attempt(long, &[1], &[0], b"");
-}
-
-// The greatest id is written, and recovery then has no next.
-fn last_id() {
-    let mut store = four_pages();
-    say::text(b"push 2^64-1: ");
-    let pushed = log::push(
-        &mut store,
-        State::fresh(),
-        &[0xffff_ffff_ffff_ffff],
-        &[2],
-        b"ab",
-    );
-    outcome(pushed);
-    say::text(b"  recovery then: ");
-    match log::recover(&store, pushed.state.length) {
-        log::Recovered::At {
-            state: _,
-            excess: _,
-        } => say::text(b"a state"),
-        log::Recovered::Refused(refusal) => say::refusal(refusal),
+// How many of the three words from k on are numbers: "-" is none.
+fn count(line: &[u8], k: usize) -> usize
+    requires { ⌜ k < 8 ⌝ }
+    ensures { λ r. ⌜ r ≤ 3 ⌝ }
+{
+    let mut j: usize = 0;
+    while j < 3 {
+        if letter(line, k + j, 0) == b'-' {
+            return j;
+        }
+        j += 1;
     }
+    j
+}
+
+// The same for the batch of a line: words 4 to 6 are its ids, and 7 to 9 its ends.
+fn push_few(store: &mut [u8], state: State, line: &[u8], bytes: &[u8]) -> State {
+    let ids = [number(line, 4), number(line, 5), number(line, 6)];
+    let ends = [number(line, 7), number(line, 8), number(line, 9)];
+    let i = count(line, 4);
+    let e = count(line, 7);
+    further(store, state, &ids[..i], &ends[..e], bytes)
+}
+
+// "entries LENGTH LAST DATA IDS ENDS": pushes onto four pages that hold nothing yet, from a state.
+pub fn entries(store: &mut [u8], line: &[u8]) -> State {
+    let state = State {
+        length: number(line, 1),
+        last: number(line, 2),
+        next: 1,
+    };
+    let data = part(line, b' ', 3);
+    let from = data.from;
+    let end = data.end;
+    building::fill(store, 255);
+    onto(store, 4096, state, line, &line[from..end])
+}
+
+// "long SIZE - - IDS ENDS": pushes onto what is there, with long data.
+pub fn long(store: &mut [u8], state: State, line: &[u8]) -> State {
+    let mut bytes = io::buffer();
+    building::mix(&mut bytes, 0);
+    onto(store, number(line, 1) as usize, state, line, &bytes)
+}
+
+// Pushes onto a store's first bytes.
+fn onto(store: &mut [u8], size: usize, state: State, line: &[u8], bytes: &[u8]) -> State {
+    if size <= store.len() {
+        return push_few(&mut store[..size], state, line, bytes);
+    }
+    state
+}
+
+pub fn ask(store: &[u8], state: State, what: u8, line: &[u8]) {
+    match what {
+        b'h' => hex(store, number(line, 1) as usize),
+        b'u' => rest(store, state.length as usize),
+        b'q' => query(store, state, number(line, 1)),
+        b'v' => verify(store, state, number(line, 1)),
+        b'y' => yields(store, state),
+        _ => {}
+    }
+}
+
+// "hex PAGE".
+fn hex(store: &[u8], p: usize) {
+    let pages = Page::count(store);
+    if p < pages {
+        let from = p * Page::SIZE;
+        let end = from + Page::SIZE;
+        say::one(b"  page #: ", p as u64);
+        show(&store[from..end]);
+    }
+}
+
+// "query ID": where the id is, or would be.
+fn query(store: &[u8], state: State, id: u64) {
+    say::one(b"  a lookup of #: ", id);
+    answer(log::find(store, state, id));
     say::text(b"\n");
 }
 
-fn mix(bytes: &mut [u8]) {
-    let mut i: usize = 0;
-    while i < bytes.len() {
-        bytes[i] = (i % 251) as u8;
-        i += 1;
-    }
+// "yields": what recovery says then.
+fn yields(store: &[u8], state: State) {
+    say::text(b"  recovery then: ");
+    say_recovered(log::recover(store, state.length));
 }
 
-fn same(a: &[u8], b: &[u8]) -> bool {
-    if a.len() != b.len() {
+// An answer's bytes are so many of the long data from a place on.
+fn is_data(out: &[u8], length: u64, from: usize, n: usize) -> bool {
+    if length as usize != n {
         return false;
     }
-    let mut i: usize = 0;
-    while i < a.len() {
-        if a[i] != b[i] {
-            return false;
-        }
-        i += 1;
-    }
-    true
-}
-
-// The first n bytes of an output are those of the batch data from one end to another.
-fn is_data(out: &[u8], n: usize, bytes: &[u8], from: usize, end: usize) -> bool {
     if out.len() < n {
         return false;
     }
-    if bytes.len() < end {
-        return false;
-    }
-    if end < from {
-        return false;
-    }
-    let front = 0;
-    same(&out[front..n], &bytes[from..end])
+    is_mixed(&out[..n], 0, from)
 }
 
-// A lookup of the id hands over the batch data from one end to another.
-fn reads_back(store: &[u8], state: State, id: u64, bytes: &[u8], from: usize, end: usize) -> bool {
+// A lookup of the id hands over n bytes of the long data from a place on.
+fn reads_back(store: &[u8], state: State, id: u64, from: usize, n: usize) -> bool {
     let mut out = io::buffer();
     let look = log::lookup(store, state, id, &mut out);
     match look {
         Look::Found {
             position: _,
             length,
-        } => is_data(&out, length as usize, bytes, from, end),
+        } => is_data(&out, length, from, n),
         Look::Absent { position: _ } => false,
         Look::Refused(_) => false,
     }
 }
 
-// Every entry of a batch reads back.
-fn all_back(store: &[u8], state: State, ids: &[u64], ends: &[u64], bytes: &[u8]) -> bool {
-    let mut from: usize = 0;
+// Each of the 1,000 entries reads back.
+fn thousand_back(store: &[u8], state: State) -> bool {
     let mut j: usize = 0;
-    while j < ids.len() {
-        if ends.len() <= j {
+    while j < 1000 {
+        if !reads_back(store, state, j as u64 + 1, j, 1) {
             return false;
         }
-        let end = ends[j] as usize;
-        if !reads_back(store, state, ids[j], bytes, from, end) {
-            return false;
-        }
-        from = end;
         j += 1;
     }
     true
 }
 
 fn say_back(back: bool) {
-    if back {
-        say::text(b"  the data reads back the same\n");
-    } else {
-        say::text(b"  the data does not read back\n");
-    }
+    say::either(
+        b"  the data reads back the same\n|  the data does not read back\n",
+        back,
+    );
 }
 
-// One entry with n data bytes, read back once its id is taken.
-fn one_entry(store: &mut [u8], n: u64, bytes: &[u8]) {
-    say::text(b"push 1 with ");
-    say::number(n);
-    say::text(b" bytes: ");
-    let state = further(store, State::fresh(), &[1], &[n], bytes);
-    rest(store, state.length as usize);
+// The state once its next id is taken, or the same if none is left.
+fn taken(state: State) -> State {
     match state.take() {
         log::Taken::Id {
             id: _,
-            state: taken,
-        } => say_back(all_back(store, taken, &[1], &[n], bytes)),
-        log::Taken::Refused(refusal) => say::refusal(refusal),
+            state: after,
+        } => after,
+        log::Taken::Refused(_) => state,
     }
 }
 
-fn payload(n: u64) {
-    let mut store = four_pages();
-    let mut bytes = io::buffer();
-    mix(&mut bytes);
-    one_entry(&mut store, n, &bytes);
-}
-
-// Payloads of 1,019 to 1,022 and of 2,042 to 2,045 bytes.
-fn boundaries() {
-    payload(1011);
-    payload(1012);
-    payload(1013);
-    payload(1014);
-    payload(2034);
-    payload(2035);
-    payload(2036);
-    payload(2037);
+// "verify N": id 1 has n bytes of the long data, once it is taken.
+fn verify(store: &[u8], state: State, n: u64) {
+    say_back(reads_back(store, taken(state), 1, 0, n as usize));
 }
 
 fn numbers() -> [u64; 1000]
@@ -384,16 +339,18 @@ fn thousand() {
     let mut ids = numbers();
     let mut bytes = io::buffer();
     ascend(&mut ids);
-    mix(&mut bytes);
+    building::mix(&mut bytes, 0);
+    push_thousand(&mut store, &ids, &bytes);
+}
+
+fn push_thousand(store: &mut [u8], ids: &[u64], bytes: &[u8]) {
     say::text(b"push 1 to 1000 with 1 byte each: ");
-    let pushed = log::push(&mut store, State::fresh(), &ids, &ids, &bytes);
-    outcome(pushed);
-    let state = pushed.state;
-    rest(&store, state.length as usize);
+    let state = further(store, State::fresh(), ids, ids, bytes);
+    rest(store, state.length as usize);
     let all = State {
         length: state.length,
         last: state.last,
         next: 1001,
     };
-    say_back(all_back(&store, all, &ids, &ids, &bytes));
+    say_back(thousand_back(store, all));
 }

@@ -1,5 +1,7 @@
 // Words and numbers on standard output.
+use crate::parts::part;
 use libc::STDOUT_FILENO;
+use log::State;
 use refusal::Refusal;
 
 pub fn text(words: &[u8]) {
@@ -8,6 +10,58 @@ pub fn text(words: &[u8]) {
 
 pub fn number(n: u64) {
     io::print_decimal(STDOUT_FILENO, n);
+}
+
+// Part k of words that a byte separates.
+fn piece(words: &[u8], separator: u8, k: usize) {
+    let p = part(words, separator, k);
+    let from = p.from;
+    let end = p.end;
+    text(&words[from..end]);
+}
+
+// A script's line from word k on.
+pub fn told(line: &[u8], k: usize) {
+    let word = part(line, b' ', k);
+    let from = word.from;
+    text(&line[from..]);
+}
+
+// Wording k of several that '|' separates.
+pub fn wording(words: &[u8], k: usize) {
+    piece(words, b'|', k);
+}
+
+// The first of two wordings if it holds, else the second.
+pub fn either(words: &[u8], holds: bool) {
+    if holds {
+        wording(words, 0);
+    } else {
+        wording(words, 1);
+    }
+}
+
+// Words with a number in place of their '#'.
+pub fn one(words: &[u8], n: u64) {
+    piece(words, b'#', 0);
+    number(n);
+    piece(words, b'#', 1);
+}
+
+// Words with two numbers in place of their '#'.
+pub fn two(words: &[u8], a: u64, b: u64) {
+    piece(words, b'#', 0);
+    number(a);
+    piece(words, b'#', 1);
+    number(b);
+    piece(words, b'#', 2);
+}
+
+// Words with a state's numbers in place of their '#': length, last and next.
+pub fn state(words: &[u8], s: State) {
+    two(words, s.length, s.last);
+    number(s.next);
+    piece(words, b'#', 3);
 }
 
 // Bytes in hexadecimal digits, with a space after each.
@@ -22,32 +76,25 @@ pub fn bytes(values: &[u8]) {
 
 // A refusal as document 01 names it: its number, and the page or length.
 pub fn refusal(r: Refusal) {
-    text(b"refusal ");
-    number(r.number());
-    match r {
-        Refusal::BadMark { page: _ } => on_page(r),
-        Refusal::ShortEntry { page: _ } => on_page(r),
-        Refusal::CutEntry { page: _ } => on_page(r),
-        Refusal::NoEntries { page: _ } => on_page(r),
-        Refusal::BufferSmall { needed } => {
-            text(b", needs ");
-            number(needed);
-        }
-        Refusal::Overlap { page: _ } => on_page(r),
-        Refusal::NotAscending { page: _ } => on_page(r),
-        Refusal::BadState => {}
-        Refusal::OutOfOrder => {}
-        Refusal::TooLarge => {}
-        Refusal::NoRoom => {}
-        Refusal::IdsUsedUp => {}
-        Refusal::BelowStart => {}
-        Refusal::OutsideWindow => {}
-        Refusal::BadBatch => {}
-        Refusal::ValueTooLarge => {}
+    let n = r.number();
+    one(b"refusal #", n);
+    named(n, r.value());
+}
+
+// The page or the length that the refusal of a number names.
+fn named(n: u64, value: u64) {
+    match n {
+        5 | 6 | 7 | 8 | 14 | 15 => one(b" at page #", value),
+        10 => one(b", needs #", value),
+        _ => {}
     }
 }
 
-fn on_page(r: Refusal) {
-    text(b" at page ");
-    number(r.value());
+// What an output that held dots holds now, if it is short, and the line's end.
+pub fn dots(out: &[u8]) {
+    if out.len() <= 8 {
+        text(b": ");
+        text(out);
+    }
+    text(b"\n");
 }

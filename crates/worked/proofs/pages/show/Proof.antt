@@ -11,11 +11,8 @@ slice-aggregate-bytes c = simp length-take (omega arith)
 bytes-requires : tie.Need-bytes-requires
 bytes-requires c κs = search needs
 
-slice-aggregate-text : tie.Need-slice-aggregate-text
-slice-aggregate-text c = search needs
-
-text-requires : tie.Need-text-requires
-text-requires c κs = search needs
+slice-aggregate-one : tie.Need-slice-aggregate-one
+slice-aggregate-one c = search needs
 
 sub-zeros : tie.Need-sub-zeros
 sub-zeros c = search needs
@@ -29,14 +26,8 @@ part-zeros-end c = search needs
 zeros-requires : tie.Need-zeros-requires
 zeros-requires c κs = search needs
 
-number-requires : tie.Need-number-requires
-number-requires c κs = search needs
-
-slice-aggregate-text-2 : tie.Need-slice-aggregate-text-2
-slice-aggregate-text-2 c = search needs
-
-text-requires-2 : tie.Need-text-requires-2
-text-requires-2 c κs = search needs
+one-requires : tie.Need-one-requires
+one-requires c κs = search needs
 
 returns : tie.Need-returns
 returns c = search needs
@@ -50,14 +41,11 @@ show-spec =
     (tie.spec
     slice-aggregate-bytes
     bytes-requires
-    slice-aggregate-text
-    text-requires
+    slice-aggregate-one
     sub-zeros
     part-zeros-start
     part-zeros-end
     zeros-requires
-    number-requires
-    slice-aggregate-text-2
-    text-requires-2
+    one-requires
     returns
     returns-2)

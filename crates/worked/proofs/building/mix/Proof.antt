@@ -1,23 +1,23 @@
 -- `mix` is safe and ends. Assumes nothing.
 use Prim.Native.Nat.{_≤_, _-_}
-use mathlib.Core.Path.{_≡_}
 use borrow.Author.Needs.{needs}
-use lib.ListN.{length, length-set}
 use native.Mathlib.Omega.{arith}
-use Rattle.worked.proofs.pushes.mix.Statement.{statement}
-use Rattle.worked.proofs.pushes.mix.Tie as tie
+use mathlib.Core.Path.{_≡_}
+use lib.ListN.{length, length-set}
+use Rattle.worked.proofs.building.mix.Statement.{statement}
+use Rattle.worked.proofs.building.mix.Tie as tie
 
 abbrev Inv-loop : tie.InvT-loop
-Inv-loop bytes₀ i₀ bytes i = (length bytes ≡ length bytes₀) × (i ≤ length bytes)
+Inv-loop bytes₀ id i₀ bytes i = (length bytes ≡ length bytes₀) × (i ≤ length bytes)
 
 abbrev μ-loop : tie.MeasureT-loop
-μ-loop bytes₀ i₀ bytes i = length bytes - i
+μ-loop bytes₀ id i₀ bytes i = length bytes - i
 
 loop-holds : tie.Need-loop-holds Inv-loop μ-loop
 loop-holds c = search needs
 
-cast-bytes : tie.Need-cast-bytes Inv-loop μ-loop
-cast-bytes c = search needs
+mixed-requires : tie.Need-mixed-requires Inv-loop μ-loop
+mixed-requires c κs = search needs
 
 slice-write-bytes : tie.Need-slice-write-bytes Inv-loop μ-loop
 slice-write-bytes c = search needs
@@ -44,7 +44,7 @@ mix-spec =
     Inv-loop
     μ-loop
     loop-holds
-    cast-bytes
+    mixed-requires
     slice-write-bytes
     add-i
     loop-less

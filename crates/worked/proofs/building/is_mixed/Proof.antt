@@ -1,21 +1,24 @@
 -- `is_mixed` is safe and ends. Assumes nothing.
-use Prim.Native.Nat.{_-_, _≤_}
+use Prim.Native.Nat.{_≤_, _-_}
 use borrow.Author.Needs.{needs}
 use lib.ListN.{length}
-use Rattle.worked.proofs.lookups.is_mixed.Statement.{statement}
-use Rattle.worked.proofs.lookups.is_mixed.Tie as tie
+use Rattle.worked.proofs.building.is_mixed.Statement.{statement}
+use Rattle.worked.proofs.building.is_mixed.Tie as tie
 
 abbrev Inv-loop : tie.InvT-loop
-Inv-loop bytes id i₀ i = i ≤ length bytes
+Inv-loop bytes id from i₀ i = i ≤ length bytes
 
 abbrev μ-loop : tie.MeasureT-loop
-μ-loop bytes id i₀ i = length bytes - i
+μ-loop bytes id from i₀ i = length bytes - i
 
 loop-holds : tie.Need-loop-holds Inv-loop μ-loop
 loop-holds c = search needs
 
 shared-slice-read-if1 : tie.Need-shared-slice-read-if1 Inv-loop μ-loop
 shared-slice-read-if1 c = search needs
+
+wrapping-add-usize-requires : tie.Need-wrapping-add-usize-requires Inv-loop μ-loop
+wrapping-add-usize-requires c κs = search needs
 
 mixed-requires : tie.Need-mixed-requires Inv-loop μ-loop
 mixed-requires c κs = search needs
@@ -43,6 +46,7 @@ is-mixed-spec =
     μ-loop
     loop-holds
     shared-slice-read-if1
+    wrapping-add-usize-requires
     mixed-requires
     returns
     add-i

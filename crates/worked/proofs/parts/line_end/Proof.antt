@@ -1,18 +1,21 @@
--- `untouched` is safe and ends. Assumes nothing.
-use Prim.Native.Nat.{_≤_, _-_}
+-- `line_end` gives a place in the script, and ends. Assumes nothing.
+use Prim.Native.Nat.{_<_, _≤_, _-_}
 use borrow.Author.Needs.{needs}
 use lib.ListN.{length}
-use Rattle.worked.proofs.pushes.untouched.Statement.{statement}
-use Rattle.worked.proofs.pushes.untouched.Tie as tie
+use Rattle.worked.proofs.parts.line_end.Statement.{statement}
+use Rattle.worked.proofs.parts.line_end.Tie as tie
 
 abbrev Inv-loop : tie.InvT-loop
-Inv-loop bytes i₀ i = i ≤ length bytes
+Inv-loop script from i₀ i = (from ≤ i) × (i < length script)
 
 abbrev μ-loop : tie.MeasureT-loop
-μ-loop bytes i₀ i = length bytes - i
+μ-loop script from i₀ i = length script - i
 
 loop-holds : tie.Need-loop-holds Inv-loop μ-loop
 loop-holds c = search needs
+
+add-loop : tie.Need-add-loop Inv-loop μ-loop
+add-loop c = search needs
 
 shared-slice-read-if1 : tie.Need-shared-slice-read-if1 Inv-loop μ-loop
 shared-slice-read-if1 c = search needs
@@ -32,13 +35,14 @@ loop-again c = search needs
 returns-2 : tie.Need-returns-2 Inv-loop μ-loop
 returns-2 c = search needs
 
-pub untouched-spec : {M : Type 1} → statement M
-untouched-spec =
+pub line-end-spec : {M : Type 1} → statement M
+line-end-spec =
     tie.close
     (tie.spec
     Inv-loop
     μ-loop
     loop-holds
+    add-loop
     shared-slice-read-if1
     returns
     add-i

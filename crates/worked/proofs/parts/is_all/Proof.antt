@@ -3,8 +3,8 @@ use Prim.Native.Nat.{_-_, _≤_}
 use native.Mathlib.Omega.{arith}
 use borrow.Author.Needs.{needs}
 use lib.ListN.{length}
-use Rattle.worked.proofs.scans.is_all.Statement.{statement}
-use Rattle.worked.proofs.scans.is_all.Tie as tie
+use Rattle.worked.proofs.parts.is_all.Statement.{statement}
+use Rattle.worked.proofs.parts.is_all.Tie as tie
 
 abbrev Inv-loop : tie.InvT-loop
 Inv-loop bytes b i₀ i = i ≤ length bytes
