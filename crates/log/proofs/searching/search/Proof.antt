@@ -3,7 +3,7 @@ use Prim.Native.Nat.{ℕ, _+_, _-_}
 use mathlib.Core.Path.{_≡_, refl, sym, ap, _∙_}
 use native.Mathlib.Omega.{arith}
 use borrow.Author.Needs.{needs}
-use Rattle.log.specs.Lookup.{sayingAt, window, guessIn}
+use Rattle.log.specs.Lookup.{sayingAt, Window, window, guessIn}
 use Rattle.log.specs.Private.{paperSays}
 use Rattle.log.specs.declared.searching.Says.{Says}
 use Rattle.log.proofs.Laws.Lookup.Rounds.{InWindow, guess-inside}
@@ -29,8 +29,11 @@ abbrev μ-window : tie.MeasureT-window
 abbrev Looked-at : Type 0
 Looked-at = tie.After-says-at Inv-back μ-back Inv-window μ-window
 
+abbrev start-of : Looked-at → tie.Start Inv-back μ-back Inv-window μ-window
+start-of c = c .before .before .before .before .before .before .before
+
 -- by what was answered
-said-by : (c : Looked-at) (x : Says) → c .says-at .result ≡ x → paperSays x ≡ sayingAt (c .before .before .before .before .before .before .before .args .log .now) (c .before .before .before .before .before .before .before .args .id) (c .before .back .s)
+said-by : (c : Looked-at) (x : Says) → c .says-at .result ≡ x → paperSays x ≡ sayingAt (start-of c .args .log .now) (start-of c .args .id) (c .before .back .s)
 said-by c x e = sym (ap paperSays e) ∙ c .says-at .ensures
 
 -- ---- the needs
@@ -56,7 +59,13 @@ sub-offset-3 c = omega arith
 offset-requires : tie.Need-offset-requires Inv-back μ-back Inv-window μ-window
 offset-requires c κs = omega arith
 
-inside : (c : tie.After-offset Inv-back μ-back Inv-window μ-window) → InWindow (window (c .before .before .window .lo) (c .before .before .window .hi) (c .before .before .window .a) (c .before .before .window .b)) (guessIn (c .before .before .before .before .before .args .id) (window (c .before .before .window .lo) (c .before .before .window .hi) (c .before .before .window .a) (c .before .before .window .b)))
+abbrev Guessed-at : Type 0
+Guessed-at = tie.After-offset Inv-back μ-back Inv-window μ-window
+
+abbrev window-of : Guessed-at → Window
+window-of c = window (c .before .before .window .lo) (c .before .before .window .hi) (c .before .before .window .a) (c .before .before .window .b)
+
+inside : (c : Guessed-at) → InWindow (window-of c) (guessIn (c .before .before .before .before .before .args .id) (window-of c))
 inside c = guess-inside _ _ (omega arith)
 
 add-g : tie.Need-add-g Inv-back μ-back Inv-window μ-window
