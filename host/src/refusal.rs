@@ -1,6 +1,6 @@
 use std::fmt;
 
-/// Why the library refused, with what the refusal names. [`Refusal::number`] is the number of document 01.
+/// Why the library refused, with what the refusal names. [`Refusal::number`] is its number in docs/RULES.md 3.
 #[derive(Clone, Copy, Debug, PartialEq, Eq, Hash)]
 pub enum Refusal {
     BadState,
@@ -57,7 +57,7 @@ impl Refusal {
         }
     }
 
-    /// The number that document 01 gives the refusal, 1 to 16.
+    /// The number that the rules give the refusal, 1 to 16.
     pub fn number(self) -> u64 {
         match self {
             Refusal::BadState => 1,

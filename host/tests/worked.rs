@@ -1,4 +1,4 @@
-//! The logs and batches of document 01, through the safe types.
+//! The worked cases of docs/RULES.md 13, through the safe types.
 use awirbesh::{lent, Entry, IdSequence, Log, Look, Refusal, State};
 
 const PAGE: usize = 1024;

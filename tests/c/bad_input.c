@@ -1,11 +1,11 @@
 /* Bad input at scale: random and damaged logs, made-up states, cursors, ranges and batches through the archive.
  *
- * Every answer is held to the model of document 01, and so is every byte that was lent, changed or not. Each
+ * Every answer is held to the model of the rules, and so is every byte that was lent, changed or not. Each
  * buffer lies between two pages that cannot be touched, flush with one of them, so that a read or a write one
  * byte outside stops the program; what is left of the room on the other side holds a pattern that is compared.
  *
  * bad_input SEED CALLS: prints how often each function gave each answer, and fails on a wrong answer, on a
- * changed byte, and where some answer of document 01 did not come up at all.
+ * changed byte, and where some answer that the rules have did not come up at all.
  */
 #include "awirbesh.h"
 #include "model.h"
@@ -282,7 +282,7 @@ static uint64_t some_id(awirbesh_state state)
 enum { TAKE, CHECK, RECOVER, FIND, LOOKUP, ABSENT, SCAN, STEP, ENDED, PUSH, NOTE, KINDS };
 static const char *const names[KINDS] = {"take", "check", "recover", "find", "lookup", "  absent",
                                          "scan", "step",  "  end",   "push", "note"};
-/* The refusals that document 01 lets each give, as bits. */
+/* The refusals that the rules let each give, as bits. */
 static const uint32_t possible[KINDS] = {
     1u | 1u << 9,
     1u | 1u << 1 | 1u << 5 | 1u << 6 | 1u << 7 | 1u << 8 | 1u << 14 | 1u << 15,
@@ -307,7 +307,7 @@ static uint64_t counts[KINDS][17], calls;
 static void count(int kind, uint64_t number)
 {
     if (number > 16 || !(possible[kind] >> number & 1))
-        stop("an answer that document 01 does not have");
+        stop("an answer that the rules do not have");
     counts[kind][number]++;
     calls++;
 }
@@ -432,7 +432,7 @@ static void try_large_push(awirbesh_state state)
     count(PUSH, got.number);
 }
 
-/* The ids from the first start on that have been noted, and what 01 makes of them: a second model, with no words. */
+/* The ids from the first start on that have been noted, and what the rules make of them: a second model, with no words. */
 enum { NOTED = 20000 };
 static uint8_t noted[NOTED];
 
@@ -550,7 +550,7 @@ static int report(void)
         }
         printf("\n");
     }
-    printf("%llu calls, every answer and every byte as document 01 says\n", (unsigned long long)calls);
+    printf("%llu calls, every answer and every byte as the rules say\n", (unsigned long long)calls);
     return missing;
 }
 

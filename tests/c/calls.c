@@ -1,4 +1,4 @@
-/* Calls each function of awirbesh.h and holds its whole answer to document 01's worked cases. */
+/* Calls each function of awirbesh.h and holds its whole answer to the worked cases of docs/RULES.md 13. */
 #include "awirbesh.h"
 
 #include <stdio.h>
@@ -39,7 +39,7 @@ static void states(void)
     same_state("take at the end", t.state, 0, 5, UINT64_MAX);
 }
 
-/* (1, "hello") then (2, none), as 01 has it byte by byte. */
+/* (1, "hello") then (2, none), byte by byte. */
 static void two_entries(void)
 {
     static uint8_t store[4096], expected[4096], out[16];
@@ -220,6 +220,6 @@ int main(void)
     largest_store();
     sequences();
     if (!failed)
-        puts("every function of awirbesh.h answers as document 01 says");
+        puts("every function of awirbesh.h answers as the rules say");
     return failed;
 }

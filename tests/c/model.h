@@ -1,4 +1,4 @@
-/* Document 01, written out once more in plain C and sharing nothing with the library: what the archive must
+/* docs/RULES.md, written out once more in plain C and sharing nothing with the library: what the archive must
  * answer. Slow and simple on purpose. Each function has the arguments and the answer of its namesake. */
 #ifndef MODEL_H
 #define MODEL_H

@@ -1,4 +1,4 @@
--- The numbers that stand for 01's answers to "Sound check" and "Recovery".
+-- The numbers that stand for the answers of Rules 6, "Recovery", and Rules 7, "Sound check".
 use Rattle.log.specs.Check.{Checking, sound, refused}
 use Rattle.log.specs.Recovery.{Recovering, recovered, refused as unrecovered}
 use Rattle.awirbesh.specs.State.{stateNumbers}
@@ -9,7 +9,7 @@ abbrev pub checkedNumbers : Checking → CheckedNumbers
 checkedNumbers sound = record { number = 0; value = 0 }
 checkedNumbers (refused number value) = record { number = number; value = value }
 
--- the state, and the excess whose "size" is "reported"
+-- the state, and the excess: 6.2 "their count is reported with the state"
 abbrev pub recoveredNumbers : Recovering → RecoveredNumbers
 recoveredNumbers (recovered st excess) = record { number = 0; value = 0; excess = excess; state = stateNumbers st }
 recoveredNumbers (unrecovered number value) =

@@ -1,4 +1,4 @@
--- The numbers that stand for 01's answer to "Push".
+-- The numbers that stand for the answer of Rules 4, "Push".
 use Prim.Native.Nat.{ℕ}
 use Rattle.pushing.specs.Push.{Why, none, refused, Pushing}
 use Rattle.awirbesh.specs.State.{stateNumbers}
@@ -9,6 +9,6 @@ abbrev pub reasonNumber : Why → ℕ
 reasonNumber none = 0
 reasonNumber (refused number value) = number
 
--- "The answer is the reason, the count of entries written and the state", after a refusal too
+-- 4.5 "The answer is the reason .. the count of entries written, after a refusal too; and the state"
 abbrev pub pushedNumbers : Pushing → PushedNumbers
 pushedNumbers a = record { number = reasonNumber (a .reason); written = a .written; state = stateNumbers (a .state) }

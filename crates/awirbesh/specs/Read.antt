@@ -1,4 +1,4 @@
--- The numbers that stand for a range and for 01's answers to "Lookup" and "Scan".
+-- The numbers that stand for a range, and for the answers of Rules 8, "Lookup", and Rules 9, "Scan".
 use Prim.Native.Nat.{ℕ}
 use lib.Dec.{eqb}
 use Rattle.refusal.specs.Pick.{pick}
@@ -14,7 +14,7 @@ use Rattle.awirbesh.specs.declared.reading.LookNumbers.{LookNumbers}
 use Rattle.awirbesh.specs.declared.reading.StartedNumbers.{StartedNumbers}
 use Rattle.awirbesh.specs.declared.reading.SteppedNumbers.{SteppedNumbers}
 
--- "Each end of a range is included, excluded or open": kind 1, 2, any other
+-- 9.1 "is included, excluded or open": kind 1, 2, any other
 abbrev pub endFrom : EndNumbers → End
 endFrom e = pick (eqb (e .kind) 1) (Included (e .id)) (pick (eqb (e .kind) 2) (Excluded (e .id)) Open)
 

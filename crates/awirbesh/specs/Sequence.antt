@@ -1,4 +1,4 @@
--- The numbers that stand for an id sequence and for 01's answers to "Id sequence".
+-- The numbers that stand for an id sequence, and for the answers of Rules 10, "Id sequence".
 use Prim.Native.Nat.{ℕ}
 use mathlib.Core.Bool.{Bool}
 use Rattle.refusal.specs.Pick.{pick}
@@ -18,6 +18,6 @@ abbrev pub notedNumbers : SequenceNumbers → Noting → NotedNumbers
 notedNumbers given (noted start after) = record { number = 0; sequence = record { start = start; after = after } }
 notedNumbers given (refused number value) = record { number = number; sequence = given }
 
--- "yes"
+-- 10.5 "yes"
 abbrev pub yesNumber : Bool → ℕ
 yesNumber answer = pick answer 1 0

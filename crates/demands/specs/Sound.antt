@@ -1,4 +1,4 @@
--- 01, "The page": a sound log, and which ids it stores.
+-- Rules 2, "Sound logs": a sound log, and which ids it stores.
 use Prim.Native.Nat.{ℕ, _*_, _%_, _≤_, _<_}
 use mathlib.Core.Path.{_≡_}
 use mathlib.Core.Logic.{_⊎_}
@@ -9,36 +9,36 @@ use Rattle.page.specs.Mark.{markAt}
 use Rattle.page.specs.Entry.{lengthAt, idAt, dataLengthAt, afterAt}
 use Rattle.log.specs.Bounds.{Fits}
 
--- page p starts an entry
+-- page p is a start
 pub record Start (log : List ℕ) (p : ℕ) : Type 0 where
   pub inside : p < pageCount log
   pub marked : markAt log p ≡ 1
 
--- "A log is sound if it is empty, or:" of an empty log every line below holds by itself
+-- of an empty log every line holds by itself
 pub record Sound (log : List ℕ) : Type 0 where
-  -- "length is a whole number of pages"
+  -- 2.1 "Its length is a whole number of pages"
   pub pages : length log % pageSize ≡ 0
-  -- "every mark is 0 or 1"
+  -- 2.2 "Every page has mark 0 or 1"
   pub marks : (p : ℕ) → p < pageCount log → (markAt log p ≡ 0) ⊎ (markAt log p ≡ 1)
-  -- "page 0 is a start"
+  -- 2.3 "Page 0, if there is one, is a start"
   pub first : 0 < pageCount log → markAt log 0 ≡ 1
-  -- "each start has payload length at least 8"
+  -- 2.4 "The payload of each start is 8 bytes or more"
   pub long : (p : ℕ) → Start log p → idSize ≤ lengthAt log p
-  -- "and its pages end before the next start"
+  -- 2.5 "The pages of each entry end before the next start"
   pub apart : (p q : ℕ) → Start log p → Start log q → p < q → afterAt log p ≤ q
-  -- "and within the log"
+  -- 2.6 "They end within the log"
   pub within : (p : ℕ) → Start log p → afterAt log p ≤ pageCount log
-  -- "ids ascend strictly"
+  -- 2.7 "From each start to the next the id is greater"
   pub rising : (p q : ℕ) → Start log p → Start log q → p < q → idAt log p < idAt log q
-  -- "from at least 1"
+  -- 2.8 "Every id is at least 1"
   pub from-one : (p : ℕ) → Start log p → 1 ≤ idAt log p
 
--- a sound log in its store: what the sound check's answer says
+-- a sound log in its store: 11.2, what the sound check's answer says
 pub record SoundStore (store : List ℕ) (n : ℕ) : Type 0 where
   pub fits : Fits store n
   pub sound : Sound (take n store)
 
--- the entry with that id starts at the position and has that many data bytes
+-- 2.9 "An id is stored if a start of the log has it": at this position, with so many data bytes
 pub record Stored (log : List ℕ) (id position len : ℕ) : Type 0 where
   pub page : ℕ
   pub start : Start log page
@@ -46,7 +46,7 @@ pub record Stored (log : List ℕ) (id position len : ℕ) : Type 0 where
   pub at-page : position ≡ page * pageSize
   pub size : len ≡ dataLengthAt log page
 
--- no entry has that id, and the position is that of the first entry with a greater one, or the log's end
+-- 11.4 "absent at the first entry with a greater id, or at length": and no entry has that id
 pub record Missing (log : List ℕ) (id position : ℕ) : Type 0 where
   pub page : ℕ
   pub at-page : position ≡ page * pageSize

@@ -1,4 +1,4 @@
--- 01, "Refusal numbers", 1: which stores, lengths and cursors are good.
+-- Rules 3, "Refusals", 1: which stores, lengths and cursors are good.
 use Prim.Native.Nat.{ℕ, _%_, _≤_, _^_}
 use mathlib.Core.Path.{_≡_}
 use mathlib.Core.Bool.{Bool, not, _||_}
@@ -7,15 +7,15 @@ use lib.Dec.{ltb, eqb}
 use lib.ListN.{length}
 use Rattle.page.specs.Size.{pageSize}
 
--- "store longer than 2^31, or length .. above the store's size": all that recovery and the sound check refuse
+-- 3.1 "the store is longer than 2^31 bytes, or length is above its size": all that recovery and the sound check refuse
 unfoldable pub tooLong : List ℕ → ℕ → Bool
 tooLong store n = ltb (2 ^ 31) (length store) || ltb (length store) n
 
--- "or length not a multiple of 1,024"
+-- 3.1 "but for recovery and sound check also if length is no multiple of 1,024"
 unfoldable pub badState : List ℕ → ℕ → Bool
 badState store n = tooLong store n || not (eqb (n % pageSize) 0)
 
--- "or a scan cursor not at a page boundary or above length"
+-- 3.1 "for a step also if the cursor is no such multiple, or above length"
 unfoldable pub badCursor : ℕ → ℕ → Bool
 badCursor n cursor = ltb n cursor || not (eqb (cursor % pageSize) 0)
 

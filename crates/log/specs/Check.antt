@@ -1,4 +1,4 @@
--- 01, "Sound check", step by step.
+-- Rules 7, "Sound check", step by step.
 use Prim.Native.Nat.{ℕ, zero, suc, _+_, _-_, _%_}
 use mathlib.Core.List.{List}
 use lib.Dec.{ltb, leb, eqb}
@@ -31,18 +31,18 @@ pub record Checkpoint : Type 0 where
 abbrev pub checkpoint : ℕ → ℕ → Checkpoint
 checkpoint page last = record { page = page; last = last }
 
--- "then each later page of the entry: 14 for mark 1, 5 for another": k pages from page p on, of the entry with that id
+-- 7.4 "each later page of the entry: 14 for mark 1, 5 for a bad one": k pages from page p on, of the entry with that id
 unfoldable pub laterMarks : List ℕ → ℕ → ℕ → ℕ → Round Checking Checkpoint
 laterMarks log id zero p = again (checkpoint p id)
 laterMarks log id (suc k) p = byMark (markAt log p) (stop (refused 14 p)) (laterMarks log id k (p + 1)) (stop (refused 5 p))
 
--- "6, 7, 15, then each later page": at a start on page p, where the ids before it end with `last`
+-- 7.3 "At a start: 6; 7; 15 if the id is not above that of the entry before": on page p, where the ids before it end with `last`
 unfoldable pub checkStart : List ℕ → ℕ → ℕ → Starting → Round Checking Checkpoint
 checkStart log p last short = stop (refused 6 p)
 checkStart log p last (cut id) = stop (refused 7 p)
 checkStart log p last (whole id len after) = pick (leb id last) (stop (refused 15 p)) (laterMarks log id (after - (p + 1)) (p + 1))
 
--- "Page by page: mark (5; 8 if page 0 has mark 0)"
+-- 7.2 "5 at a bad mark; page 0 with mark 0 is 8, any other page with mark 0 is passed"
 unfoldable pub checkPage : List ℕ → ℕ → ℕ → Round Checking Checkpoint
 checkPage log p last =
     byMark (markAt log p)
@@ -50,19 +50,19 @@ checkPage log p last =
     (pick (eqb p 0) (stop (refused 8 0)) (again (checkpoint (p + 1) last)))
     (stop (refused 5 p))
 
--- "an excess being answered 7 at the part page after all whole pages pass"
+-- 7.5 "an excess is 7, naming the page that is not whole. Else the answer is sound"
 unfoldable pub checkEnd : List ℕ → Checking
 checkEnd log = pick (eqb (length log % pageSize) 0) sound (refused 7 (pageCount log))
 
--- the pages from a checkpoint on: each round passes a page at least, so that there are no more rounds than pages
+-- 7.2 "Page after page", from a checkpoint on: each round passes a page at least, so that there are no more rounds than pages
 unfoldable pub checkFrom : List ℕ → ℕ → Checkpoint → Checking
 checkFrom log zero at = checkEnd log
 checkFrom log (suc k) at = pick (ltb (at .page) (pageCount log)) (follow (checkFrom log k) (checkPage log (at .page) (at .last))) (checkEnd log)
 
--- every page, no id before the first
+-- every page; 7.3 "0 if there is none" before
 abbrev pub checkLog : List ℕ → Checking
 checkLog log = checkFrom log (pageCount log) (checkpoint 0 0)
 
--- "Refusal 1 as in recovery"
+-- 7.1 "a store and a length in bytes, as recovery is, with the same refusal 1"
 unfoldable pub checkOf : List ℕ → ℕ → Checking
 checkOf store n = pick (tooLong store n) (refused 1 0) (checkLog (take n store))

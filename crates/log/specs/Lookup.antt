@@ -1,4 +1,4 @@
--- 01, "Lookup", step by step.
+-- Rules 8, "Lookup", step by step.
 use Prim.Native.Nat.{ℕ, zero, suc, _+_, _-_, _*_, _/_, max}
 use mathlib.Core.List.{List}
 use lib.Dec.{ltb, leb, eqb}
@@ -37,7 +37,7 @@ pub data Saying : Type 0 where
   above : (stored : ℕ) → Saying
   back : Saying
 
--- "At a start s: 6, then 7, then compare. Equal: found at s * 1,024 with its data length"
+-- 8.5 "At a start s: 6, then 7 .. found, at position s * 1,024, with the length of its data"
 unfoldable pub compared : ℕ → ℕ → Starting → Saying
 compared id s short = ends (refused 6 s)
 compared id s (cut stored) = ends (refused 7 s)
@@ -45,13 +45,13 @@ compared id s (whole stored len after) =
     pick (eqb stored id) (ends (found (s * pageSize) len))
     (pick (ltb stored id) (below stored after) (above stored))
 
--- "until it meets a start .. 5 on a bad mark"
+-- 8.4 "until it meets a start; 5 at a bad mark"
 unfoldable pub sayingAt : List ℕ → ℕ → ℕ → Saying
 sayingAt log id s = byMark (markAt log s) (compared id s (entryAt log s)) back (ends (refused 5 s))
 
 -- ---- one round
 
--- "hold a window of pages, lo .. to hi (not included) .., and two ids, a .. and b"
+-- 8.2 "a window, the pages from lo to below hi, and two ids a and b"
 pub record Window : Type 0 where
   pub lo : ℕ
   pub hi : ℕ
@@ -61,14 +61,14 @@ pub record Window : Type 0 where
 abbrev pub window : ℕ → ℕ → ℕ → ℕ → Window
 window lo hi a b = record { lo = lo; hi = hi; a = a; b = b }
 
--- page s was met on the way back from the guess g, and `rest` is the way back from there: "Stored id smaller: a is that id, lo is the larger of g + 1 and the page after the entry. Greater: b is that id, hi = s"
+-- 8.6 "If its id is smaller: a becomes it, and lo the larger of g + 1 and the page after the entry. If greater: b becomes it, and hi becomes s": page s was met on the way back from the guess g, and `rest` is the way back from there
 unfoldable pub turned : Window → ℕ → ℕ → Round Looking Window → Saying → Round Looking Window
 turned w g s rest (ends r) = stop r
 turned w g s rest (below stored after) = again (window (max (g + 1) after) (w .hi) stored (w .b))
 turned w g s rest (above stored) = again (window (w .lo) s (w .a) stored)
 turned w g s rest back = rest
 
--- "walks back from the guessed page until it meets a start, never below lo .. With none, lo becomes g + 1": from page lo + d
+-- 8.4 "walks back, never below lo, until it meets a start .. If it meets none, lo becomes g + 1": from page lo + d
 unfoldable pub walk : List ℕ → ℕ → Window → ℕ → ℕ → Round Looking Window
 walk log id w g zero = turned w g (w .lo) (again (window (g + 1) (w .hi) (w .a) (w .b))) (sayingAt log id (w .lo))
 walk log id w g (suc d) = turned w g (w .lo + suc d) (walk log id w g d) (sayingAt log id (w .lo + suc d))
@@ -79,11 +79,11 @@ roundFrom log id w g = walk log id w g (g - w .lo)
 
 -- ---- the rounds
 
--- "y = b - a and x = id - a .. With W = hi - lo, the guess g is lo + .."
+-- 8.3 "with x = id - a and y = b - a .. and W = hi - lo, it guesses page g = lo +"
 abbrev pub guessIn : ℕ → Window → ℕ
 guessIn id w = w .lo + offsetOf (id - w .a) (w .b - w .a) (w .hi - w .lo)
 
--- "While lo < hi" a round; "When the window is empty: absent at hi * 1,024". Each round takes a page at least from the window, so that there are no more rounds than pages
+-- 8.3 "While lo is below hi, a round"; 8.7 "When the window is empty: absent at hi * 1,024". Each round takes a page at least from the window, so that there are no more rounds than pages
 unfoldable pub search : List ℕ → ℕ → ℕ → Window → Looking
 search log id zero w = absent (w .hi * pageSize)
 search log id (suc k) w =
@@ -91,22 +91,22 @@ search log id (suc k) w =
     (follow (search log id k) (roundFrom log id w (guessIn id w)))
     (absent (w .hi * pageSize))
 
--- "lo = 0 to hi (not included) = all pages, and two ids, a = 0 and b = next"
+-- 8.2 "At first they are all pages, 0 and next"
 abbrev pub allPages : List ℕ → ℕ → Window
 allPages log next = window 0 (pageCount log) 0 next
 
--- "Id 0 is absent at position 0. An id not below next is absent at `length`, even if stored. Otherwise hold a window of pages"
+-- 8.1 "Id 0 is absent at 0. An id that is not below next is absent at length"; 8.2 "Else the search"
 unfoldable pub searchOf : List ℕ → ℕ → ℕ → Looking
 searchOf log next id =
     pick (eqb id 0) (absent 0)
     (pick (leb next id) (absent (length log))
     (search log id (pageCount log) (allPages log next)))
 
--- "Refusal 1 first"
+-- 8.1 "1 first"; 8.8 "`find` answers that and copies nothing"
 unfoldable pub findOf : List ℕ → State → ℕ → Looking
 findOf store st id = pick (badState store (st .length)) (refused 1 0) (searchOf (take (st .length) store) (st .next) id)
 
--- ---- what is found handed over
+-- ---- 8.8 "`lookup` then hands over what is found"
 
 unfoldable pub handFound : List ℕ → List ℕ → Looking → WithOutput Looking
 handFound log out (found position len) = handOver refused (found position len) log (position / pageSize) len out

@@ -1,4 +1,4 @@
--- 01, "Recovery", step by step.
+-- Rules 6, "Recovery", step by step.
 use Prim.Native.Nat.{ℕ, zero, suc, _-_, _%_}
 use mathlib.Core.List.{List}
 use lib.Dec.{eqb}
@@ -24,13 +24,13 @@ abbrev pub paperRecovered : Recovered → Recovering
 paperRecovered (At state excess) = recovered state excess
 paperRecovered (Refused r) = refused (numberOf r) (valueOf r)
 
--- "then 6, 7, 9. The state is (length after the cut, its id, its id + 1)": of a log of n bytes whose last start is page s
+-- 6.5 "At that start: 6, 7, then 9 if its id is 2^64-1": of a log of n bytes whose last start is page s
 unfoldable pub atLast : ℕ → ℕ → ℕ → Starting → Recovering
 atLast n excess s short = refused 6 s
 atLast n excess s (cut id) = refused 7 s
 atLast n excess s (whole id len after) = pick (eqb id topId) (refused 9 0) (recovered (recoveredAt n id) excess)
 
--- "walk back .. to a start (5 on a bad mark, 8 naming page 0 if page 0 has mark 0)": from page p
+-- 6.4 "walks back .. to a start: 5 at a bad mark, 8 if it comes to page 0 and that has mark 0": from page p
 unfoldable pub walkBack : List ℕ → ℕ → ℕ → Recovering
 walkBack log excess zero =
     byMark (markAt log 0)
@@ -43,18 +43,18 @@ walkBack log excess (suc p) =
     (walkBack log excess p)
     (refused 5 (suc p))
 
--- "An excess under a page"
+-- 6.2 "The bytes after the last whole page, the excess"
 abbrev pub excessOf : ℕ → ℕ
 excessOf n = n % pageSize
 
--- "is cut off": the log that is left
+-- 6.2 "are cut off": the log that is left
 abbrev pub cutLog : List ℕ → ℕ → List ℕ
 cutLog store n = take (n - excessOf n) store
 
--- "Length then 0: the fresh state. Else walk back from the last page"
+-- 6.3 "If no page is left: the fresh state"; 6.4 "Else it walks back from the last page"
 unfoldable pub recoverLog : List ℕ → ℕ → Recovering
 recoverLog log excess = pick (eqb (length log) 0) (recovered fresh excess) (walkBack log excess (pageCount log - 1))
 
--- "Refusal 1 here only if the store exceeds 2^31 or the length exceeds the store. An excess .. is cut off and its size reported"
+-- 6.1 "1 only if the store is longer than 2^31 bytes or length is above its size"
 unfoldable pub recoverOf : List ℕ → ℕ → Recovering
 recoverOf store n = pick (tooLong store n) (refused 1 0) (recoverLog (cutLog store n) (excessOf n))

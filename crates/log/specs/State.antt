@@ -1,4 +1,4 @@
--- 01, "What is carried over" and "Take": the state, and taking an id.
+-- Rules 1, "Pages, the store and the state", and Rules 5, "Take": the state, and taking an id.
 use Prim.Native.Nat.{ℕ, _+_, _-_, _^_}
 use lib.Dec.{eqb}
 use Rattle.refusal.specs.Pick.{pick}
@@ -7,19 +7,19 @@ use Rattle.log.specs.declared.state.State.{State}
 use Rattle.log.specs.declared.state.Taken.{Taken}
 use Rattle.log.specs.declared.state.Taken.the-variants.{Id, Refused}
 
--- "The state has three 64-bit numbers: length, last written id, next id"
+-- 1.9 "three 64-bit numbers: length; last written, an id; and next, the id to hand out next"
 abbrev pub stateOf : ℕ → ℕ → ℕ → State
 stateOf n last next = record { length = n; last = last; next = next }
 
--- "A fresh state is 0, 0, 1"
+-- 1.9 "The fresh state is 0, 0, 1"
 abbrev pub fresh : State
 fresh = stateOf 0 0 1
 
--- "The state is (length after the cut, its id, its id + 1)"
+-- 6.6 "the length that is left, the id, and the id + 1"
 abbrev pub recoveredAt : ℕ → ℕ → State
 recoveredAt n id = stateOf n id (id + 1)
 
--- "Push never moves the next id"
+-- 4.6 "next never moves"
 abbrev pub movedTo : State → ℕ → ℕ → State
 movedTo st n last = stateOf n last (st .next)
 
@@ -32,7 +32,7 @@ pub data Taking : Type 0 where
   taken : (id : ℕ) (state : State) → Taking
   refused : (number value : ℕ) → Taking
 
--- "Tests 9 alone, hands out next and adds 1"
+-- 5.1 "9 if next is 2^64-1"; 5.2 "The id handed out is next, and next grows by 1"
 unfoldable pub takeOf : State → Taking
 takeOf st = pick (eqb (st .next) topId) (refused 9 0) (taken (st .next) (stateOf (st .length) (st .last) (st .next + 1)))
 

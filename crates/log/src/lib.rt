@@ -1,4 +1,4 @@
-// The catalog log of document 01 over page's promises: the state, refusal 1, the sound check, recovery and the lookup.
+// The catalog log over page's promises: the state, refusal 1, the sound check, recovery and the lookup.
 mod bounds;
 mod checking;
 mod recovery;

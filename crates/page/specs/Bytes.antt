@@ -1,4 +1,4 @@
--- 01, "The page": a number in bytes, "high byte first".
+-- Rules 1, "Pages, the store and the state": a number in several bytes, which "has its highest byte first".
 use Prim.Native.Nat.{ℕ, zero, suc, _+_, _*_, _/_, _%_}
 use mathlib.Core.List.{List, [], _∷_, _++_}
 use lib.ListN.{getD}

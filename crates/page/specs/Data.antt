@@ -1,4 +1,4 @@
--- 01, "The page": where an entry's data lies.
+-- Rules 1, "Pages, the store and the state": where an entry's data lies.
 use Prim.Native.Nat.{ℕ, zero, suc, _+_, _-_, _*_, _/_, _%_}
 use mathlib.Core.List.{List, _++_}
 use lib.Dec.{ltb}
@@ -7,7 +7,7 @@ use Rattle.refusal.specs.Pick.{pick}
 use Rattle.page.specs.Tab.{tab}
 use Rattle.page.specs.Size.{pageSize, laterPayload, dataStart, firstData}
 
--- "the data begins at byte 12 of the first page and goes on at byte 1 of the next": data byte i, counted from the entry's first byte
+-- 1.5 "the data lies from byte 12 of the start on, and from byte 1 on each later page": data byte i, counted from the entry's first byte
 unfoldable pub placeOf : ℕ → ℕ
 placeOf i =
     pick (ltb i firstData) (dataStart + i)
@@ -21,7 +21,7 @@ dataOf part n = tab (λ i. getD part (placeOf i) 0) n
 unfoldable pub dataAt : List ℕ → ℕ → ℕ → List ℕ
 dataAt log s n = dataOf (drop (s * pageSize) log) n
 
--- "copied to its front, the rest unchanged": the output after n data bytes of the entry that starts at page s
+-- 8.8 "copied to its front and the rest of it stays": the output after n data bytes of the entry that starts at page s
 abbrev pub copied : List ℕ → ℕ → ℕ → List ℕ → List ℕ
 copied log s n out = dataAt log s n ++ drop n out
 

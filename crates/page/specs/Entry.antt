@@ -1,4 +1,4 @@
--- 01, "The page": what an entry's first page says of it, and what starts at a page.
+-- Rules 1, "Pages, the store and the state": what a start says of its entry; and Rules 3, "Refusals", 6 and 7: whether it is whole.
 use Prim.Native.Nat.{ℕ, _+_, _-_}
 use mathlib.Core.List.{List}
 use lib.Dec.{ltb}
@@ -8,15 +8,15 @@ use Rattle.page.specs.Bytes.{numberAt}
 use Rattle.page.specs.declared.entry.Entry.{Entry}
 use Rattle.page.specs.declared.entry.Entry.the-variants.{Short, Cut, Whole}
 
--- "After mark 1 come three bytes of payload length, high byte first"
+-- 1.3 "Bytes 1 to 3 of a start are the length of the entry's payload"
 unfoldable pub lengthAt : List ℕ → ℕ → ℕ
 lengthAt log p = numberAt (pageAt log p) 1 lengthSize
 
--- "The payload is the id, 8 bytes, high byte first, then the data"
+-- 1.5 "The payload is the id, in 8 bytes"
 unfoldable pub idAt : List ℕ → ℕ → ℕ
 idAt log p = numberAt (pageAt log p) payloadStart idSize
 
--- the length of the data: "the Rust's less 8"
+-- the length of the data: 1.5 "and then the data"
 abbrev pub dataLengthAt : List ℕ → ℕ → ℕ
 dataLengthAt log s = lengthAt log s - idSize
 
@@ -30,7 +30,7 @@ pub data Starting : Type 0 where
   cut : (id : ℕ) → Starting
   whole : (id len after : ℕ) → Starting
 
--- "a start with payload length under 8"; "a start whose pages run past the log's last whole page"
+-- 3.1 "a start has a payload length under 8", 3.1 "the pages of a start go past the log's last whole page"
 unfoldable pub entryAt : List ℕ → ℕ → Starting
 entryAt log s =
     pick (ltb (lengthAt log s) idSize) short

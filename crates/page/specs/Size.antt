@@ -1,4 +1,4 @@
--- 01, "The page": the page's own numbers, and how many pages there are.
+-- Rules 1, "Pages, the store and the state": the page's own numbers, and how many pages there are.
 use Prim.Native.Nat.{ℕ, _+_, _-_, _*_, _/_, _^_}
 use mathlib.Core.List.{List}
 use lib.Dec.{leb}
@@ -7,31 +7,31 @@ use Rattle.refusal.specs.Pick.{pick}
 
 -- ---- bytes of a page
 
--- "1,024 bytes in all"
+-- 1.1 "pages of 1,024 bytes"
 abbrev pub pageSize : ℕ
 pageSize = 1024
 
--- "1,020 payload bytes on an entry's first page"
+-- 1.3 "it holds the payload, up to 1,020 bytes of it"
 abbrev pub firstPayload : ℕ
 firstPayload = 1020
 
--- "1,023 on each later one"
+-- 1.4 "holds the payload from byte 1 on, up to 1,023 bytes of it"
 abbrev pub laterPayload : ℕ
 laterPayload = 1023
 
--- "three bytes of payload length"
+-- 1.3 "Bytes 1 to 3"
 abbrev pub lengthSize : ℕ
 lengthSize = 3
 
--- "the id, 8 bytes"
+-- 1.5 "the id, in 8 bytes"
 abbrev pub idSize : ℕ
 idSize = 8
 
--- where the payload begins on an entry's first page: after the mark and the length
+-- 1.3 "from byte 4 on": after the mark and the length
 abbrev pub payloadStart : ℕ
 payloadStart = 1 + lengthSize
 
--- "the data begins at byte 12 of the first page": after the id
+-- 1.5 "from byte 12 of the start on": after the id
 abbrev pub dataStart : ℕ
 dataStart = payloadStart + idSize
 
@@ -55,11 +55,11 @@ dataEnd = payloadEnd - idSize
 abbrev pub started : ℕ → ℕ → ℕ
 started size n = (n + (size - 1)) / size
 
--- "A payload of n bytes takes 1 page if n is at most 1,020, else 1 more for each started 1,023 bytes beyond"
+-- 1.6 "A payload of up to 1,020 bytes takes 1 page; a longer one takes 1 page more for each 1,023 bytes begun beyond those"
 unfoldable pub pagesFor : ℕ → ℕ
 pagesFor n = pick (leb n firstPayload) 1 (1 + started laterPayload (n - firstPayload))
 
--- the pages of n data bytes: "The payload is the id .., then the data"
+-- the pages of n data bytes: 1.5 "The payload is the id .. and then the data"
 abbrev pub pagesForData : ℕ → ℕ
 pagesForData n = pagesFor (idSize + n)
 
@@ -67,6 +67,6 @@ pagesForData n = pagesFor (idSize + n)
 abbrev pub pageCount : List ℕ → ℕ
 pageCount log = length log / pageSize
 
--- page p of a log
+-- page p of a log: 1.1 "page p at position p * 1,024"
 unfoldable pub pageAt : List ℕ → ℕ → List ℕ
 pageAt log p = take pageSize (drop (p * pageSize) log)

@@ -1,11 +1,11 @@
--- 01, "The page", "Filling": the pages that an entry's writing leaves, and the page image after them.
+-- Rules 1, "Pages, the store and the state", 1.8: the pages that an entry's writing leaves, and the page image after them.
 use Prim.Native.Nat.{ℕ, zero, suc, _-_}
 use mathlib.Core.List.{List, [], _∷_, _++_}
 use lib.ListN.{length, replicate, take, drop}
 use Rattle.page.specs.Size.{pageSize, firstPayload, laterPayload, lengthSize, idSize, pagesFor}
 use Rattle.page.specs.Bytes.{bytesOf}
 
--- "one page image is all zeros when a push begins"
+-- 1.8 "one page image, zeros at first"
 unfoldable pub blank : List ℕ
 blank = replicate pageSize 0
 
@@ -13,11 +13,11 @@ blank = replicate pageSize 0
 abbrev pub overwritten : List ℕ → List ℕ → List ℕ
 overwritten old new = new ++ drop (length new) old
 
--- "The payload is the id, 8 bytes, high byte first, then the data"
+-- 1.5 "The payload is the id, in 8 bytes, and then the data"
 abbrev pub payloadOf : ℕ → List ℕ → List ℕ
 payloadOf id d = bytesOf idSize id ++ d
 
--- "each page overwrites only its mark, length and payload": an entry's first page
+-- 1.8 "the image with the page's mark, length and payload put over its front": an entry's first page
 unfoldable pub firstPage : List ℕ → List ℕ → List ℕ
 firstPage image payload = overwritten image (1 ∷ (bytesOf lengthSize (length payload) ++ take firstPayload payload))
 
@@ -25,7 +25,7 @@ firstPage image payload = overwritten image (1 ∷ (bytesOf lengthSize (length p
 unfoldable pub laterPage : List ℕ → List ℕ → List ℕ
 laterPage image rest = overwritten image (0 ∷ take laterPayload rest)
 
--- k later pages, each over the one before
+-- k later pages; 1.8 "and is the image from then on": each over the one before
 unfoldable pub laterPages : ℕ → List ℕ → List ℕ → List ℕ
 laterPages zero image rest = []
 laterPages (suc k) image rest = laterPage image rest ++ laterPages k (laterPage image rest) (drop laterPayload rest)

@@ -1,4 +1,4 @@
-// The page layer of document 01, "The page": the page's numbers, marks, entries read, copied and written.
+// The page layer (docs/RULES.md 1): the page's numbers, marks, entries read, copied and written.
 mod copying;
 mod entry;
 mod marks;

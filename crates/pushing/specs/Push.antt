@@ -1,4 +1,4 @@
--- 01, "Push": what a push of a batch answers and leaves in the store, entry by entry.
+-- Rules 4, "Push": what a push of a batch answers and leaves in the store, entry by entry.
 use Prim.Native.Nat.{ℕ, zero, suc, _+_, _-_, _*_}
 use mathlib.Core.Bool.{Bool, false, not, _||_}
 use mathlib.Core.List.{List, _++_}
@@ -23,7 +23,7 @@ pub data Why : Type 0 where
   none : Why
   refused : (number value : ℕ) → Why
 
--- "The answer is the reason, the count of entries written and the state"
+-- 4.5 "The answer is the reason .. the count of entries written .. and the state"
 pub record Pushing : Type 0 where
   pub reason : Why
   pub written : ℕ
@@ -43,12 +43,12 @@ paperPushed r = pushing (paperReason (r .reason)) (r .written) (r .state)
 
 -- ---- the batch
 
--- "the end before it, 0 for the first"
+-- 4.1 "the end before its own, 0 for the first"
 abbrev pub before : List ℕ → ℕ → ℕ
 before ends zero = 0
 before ends (suc j) = getD ends j 0
 
--- "An entry's data runs from the end before it .. to its own end"
+-- 4.1 "The data of an entry lies from the end before its own .. to its own end"
 unfoldable pub entryData : List ℕ → List ℕ → ℕ → List ℕ
 entryData ends bytes j = take (getD ends j 0 - before ends j) (drop (before ends j) bytes)
 
@@ -57,19 +57,19 @@ unfoldable pub some : (ℕ → Bool) → ℕ → Bool
 some test zero = false
 some test (suc n) = some test n || test n
 
--- "ends fall, or an end is beyond the batch data": end j
+-- 3.1 "an end is below the one before, or an end is beyond the data": end j
 unfoldable pub badEnd : List ℕ → List ℕ → ℕ → Bool
 badEnd ends bytes j = ltb (getD ends j 0) (before ends j) || ltb (length bytes) (getD ends j 0)
 
--- "13 bad batch: id and end counts differ, ends fall, or an end is beyond the batch data"
+-- 13: 3.1 "the counts of ids and ends differ, an end is below the one before, or an end is beyond the data"
 unfoldable pub badBatch : List ℕ → List ℕ → List ℕ → Bool
 badBatch ids ends bytes = not (eqb (length ids) (length ends)) || some (badEnd ends bytes) (length ends)
 
--- "exceeds 16,777,208 bytes": the data of entry j
+-- 3.1 "an entry's data is longer than 16,777,208 bytes": entry j
 unfoldable pub largeData : List ℕ → List ℕ → ℕ → Bool
 largeData ends bytes j = ltb dataEnd (length (entryData ends bytes j))
 
--- "16 value too large: some data of a batch exceeds 16,777,208 bytes"
+-- 16: of some entry of the batch
 unfoldable pub someLarge : List ℕ → List ℕ → Bool
 someLarge ends bytes = some (largeData ends bytes) (length ends)
 
@@ -84,15 +84,15 @@ pub record Point : Type 0 where
 abbrev pub point : State → List ℕ → List ℕ → Point
 point st image store = record { state = st; image = image; store = store }
 
--- the log as it stands: "the first `length` bytes of a lent store"
+-- the log as it stands: 1.1 "the first `length` bytes"
 abbrev pub logAt : Point → List ℕ
 logAt p = take (p .state .length) (p .store)
 
--- "one page image is all zeros when a push begins"
+-- 1.8 "a push holds one page image, zeros at first"
 abbrev pub begin : List ℕ → State → Point
 begin store st = point st blank store
 
--- "last written becomes its id"
+-- 4.3 "last written becomes its id"
 abbrev pub used : ℕ → Point → Point
 used id p = point (movedTo (p .state) (p .state .length) id) (p .image) (p .store)
 
@@ -100,7 +100,7 @@ used id p = point (movedTo (p .state) (p .state .length) id) (p .image) (p .stor
 abbrev pub bytesFor : List ℕ → ℕ
 bytesFor d = pagesForData (length d) * pageSize
 
--- "its pages are written and length grows"
+-- 4.3 "its pages are written from length on, and length grows by them"
 unfoldable pub wrote : ℕ → List ℕ → Point → Point
 wrote id d p =
     point
@@ -116,18 +116,18 @@ pub record Done : Type 0 where
 abbrev pub done : Why → ℕ → Point → Done
 done why n p = record { answer = pushing why n (p .state); store = p .store }
 
--- "The first refusal ends the push: earlier entries stay", j of them
+-- 4.4 "The first refusal ends the push: what was written before it stays", j entries
 abbrev pub refuse : ℕ → ℕ → Point → Round Done Point
 refuse number j p = stop (done (refused number 0) j p)
 
--- "3" its payload is 2^24 bytes or more; "4" its pages do not fit between length and the store's end; else they are written
+-- 3: 3.1 "its payload is 2^24 bytes or more"; 4: 3.1 "its pages do not fit between length and the store's end"; else they are written
 unfoldable pub writing : ℕ → ℕ → List ℕ → Point → Round Done Point
 writing j id d p =
     pick (leb payloadEnd (idSize + length d)) (refuse 3 j p)
     (pick (ltb (length (p .store) - p .state .length) (bytesFor d)) (refuse 4 j p)
     (again (wrote id d p)))
 
--- "each entry in turn: 2; last written becomes its id; 3; 4; its pages are written and length grows": entry j
+-- 4.3 "each entry in turn: 2; last written becomes its id; 3; 4; its pages are written": entry j
 unfoldable pub turn : ℕ → ℕ → List ℕ → Point → Round Done Point
 turn j id d p = pick (leb id (p .state .last)) (refuse 2 j p) (writing j id d (used id p))
 
@@ -136,7 +136,7 @@ unfoldable pub entriesFrom : List ℕ → List ℕ → List ℕ → ℕ → ℕ 
 entriesFrom ids ends bytes zero j p = done none j p
 entriesFrom ids ends bytes (suc n) j p = follow (entriesFrom ids ends bytes n (suc j)) (turn j (getD ids j 0) (entryData ends bytes j) p)
 
--- "Order: 1, 13, 16 for the whole batch (nothing changes), then each entry in turn"
+-- 4.2 "For the whole batch: 1, then 13, then 16. Each of them changes nothing"; 4.3 "Then each entry in turn"
 unfoldable pub pushOf : List ℕ → State → List ℕ → List ℕ → List ℕ → Done
 pushOf store st ids ends bytes =
     pick (badState store (st .length)) (done (refused 1 0) 0 (begin store st))

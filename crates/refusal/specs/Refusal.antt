@@ -1,9 +1,9 @@
--- 01, "Refusal numbers": the table, and what a refusal names.
+-- Rules 3, "Refusals": the table.
 use Prim.Native.Nat.{ℕ}
 use Rattle.refusal.specs.declared.Refusal.{Refusal}
 use Rattle.refusal.specs.declared.Refusal.the-variants.{BadState, OutOfOrder, TooLarge, NoRoom, BadMark, ShortEntry, CutEntry, NoEntries, IdsUsedUp, BufferSmall, BelowStart, OutsideWindow, BadBatch, Overlap, NotAscending, ValueTooLarge}
 
--- the table's number
+-- the column "no."
 abbrev pub numberOf : Refusal → ℕ
 numberOf BadState = 1
 numberOf OutOfOrder = 2
@@ -22,7 +22,7 @@ numberOf (Overlap page) = 14
 numberOf (NotAscending page) = 15
 numberOf ValueTooLarge = 16
 
--- "5 to 8, 14 and 15 name the page, 10 the length needed"; the others name nothing, which is 0 here
+-- the column "value": a page for 5 to 8, 14 and 15, for 10 the "length needed", and nothing for the others, which is 0 here
 abbrev pub valueOf : Refusal → ℕ
 valueOf BadState = 0
 valueOf OutOfOrder = 0

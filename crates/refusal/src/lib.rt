@@ -1,4 +1,4 @@
-// The refusals of document 01, each with what it names.
+// The refusals (docs/RULES.md 3), each with what it names.
 ghost use mathlib.Core.Path.{_≡_};
 ghost use Rattle.refusal.specs.Refusal.{numberOf, valueOf};
 
@@ -22,7 +22,7 @@ pub enum Refusal {
 }
 
 impl Refusal {
-    // The number that document 01 gives the refusal.
+    // The number that the rules give the refusal.
     pub fn number(self) -> u64
         ensures { λ r. ⌜ r ≡ numberOf self ⌝ }
     {

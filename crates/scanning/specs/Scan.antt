@@ -1,4 +1,4 @@
--- 01, "Scan": where a scan starts.
+-- Rules 9, "Scan": where a scan starts.
 use Prim.Native.Nat.{ℕ}
 use mathlib.Core.List.{List}
 use Rattle.refusal.specs.Pick.{pick}
@@ -22,18 +22,18 @@ abbrev pub paperStarted : Started → Beginning
 paperStarted (At cursor) = at cursor
 paperStarted (Refused r) = refused (numberOf r) (valueOf r)
 
--- "at the position the lookup of that id gives, found or absent"; it "otherwise refuses as the lookup does"
+-- 9.2 "the position that the lookup of its id gives, found or absent; what the lookup refuses is refused"
 abbrev pub fromLook : Looking → Beginning
 fromLook (found position len) = at position
 fromLook (absent position) = at position
 fromLook (unfound number value) = refused number value
 
--- "A scan starts at 0 if the lower end is open, else at the position the lookup of that id gives"
+-- 9.2 "With an open lower end the cursor is 0, else the position that the lookup of its id gives"
 abbrev pub fromEnd : List ℕ → State → End → Beginning
 fromEnd store st Open = at 0
 fromEnd store st (Included id) = fromLook (findOf store st id)
 fromEnd store st (Excluded id) = fromLook (findOf store st id)
 
--- "Starting and stepping both check refusal 1 first"
+-- 9.2 "1 first"
 unfoldable pub scanOf : List ℕ → State → Range → Beginning
 scanOf store st range = pick (badState store (st .length)) (refused 1 0) (fromEnd store st (range .lower))

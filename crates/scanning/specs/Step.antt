@@ -1,4 +1,4 @@
--- 01, "Scan": a step.
+-- Rules 9, "Scan": a step.
 use Prim.Native.Nat.{ℕ, zero, suc, _+_, _*_, _/_}
 use mathlib.Core.Bool.{_||_}
 use mathlib.Core.List.{List}
@@ -38,17 +38,17 @@ pub data Reaching : Type 0 where
   ended : (cursor : ℕ) → Reaching
   faulty : (number value : ℕ) → Reaching
 
--- "6, 7 .. hands over its id, data length and data .. if its id is in the range; otherwise it goes on", after the entry
+-- 9.4 "at a start 6, then 7. A start whose id is not in the range is passed with its pages"
 unfoldable pub stepStart : Range → ℕ → Starting → Round Reaching ℕ
 stepStart range p short = stop (faulty 6 p)
 stepStart range p (cut id) = stop (faulty 7 p)
 stepStart range p (whole id len after) = pick (holdsOf range id) (stop (reached p id len after)) (again after)
 
--- "goes forward .. to a start (5 ..)"
+-- 9.4 "5 at a bad mark; a page with mark 0 is passed"
 unfoldable pub stepPage : List ℕ → Range → ℕ → Round Reaching ℕ
 stepPage log range p = byMark (markAt log p) (stepStart range p (entryAt log p)) (again (p + 1)) (stop (faulty 5 p))
 
--- "At the log's end it answers the end, with the cursor at length". Each round goes on by a page at least, so that there are no more of them than pages
+-- 9.6 "At the log's end the answer is the end, with the cursor at length". Each round goes on by a page at least, so that there are no more of them than pages
 unfoldable pub forward : List ℕ → Range → ℕ → ℕ → Reaching
 forward log range zero p = ended (length log)
 forward log range (suc k) p = pick (ltb p (pageCount log)) (follow (forward log range k) (stepPage log range p)) (ended (length log))
@@ -58,7 +58,7 @@ forwardFrom log range p = forward log range (pageCount log) p
 
 -- ---- what it comes to handed over
 
--- "moves the cursor after that entry, and hands over its id, data length and data (copied as a lookup does)"
+-- 9.5 "handed over as a lookup does, with 10 as there; the answer is its id, the length of its data and the cursor after the entry"
 unfoldable pub handReached : List ℕ → List ℕ → Reaching → WithOutput Stepping
 handReached log out (reached page id len after) = handOver refused (entry id len (after * pageSize)) log page len out
 handReached log out (ended cursor) = withOutput (end cursor) out
@@ -67,7 +67,7 @@ handReached log out (faulty number value) = withOutput (refused number value) ou
 unfoldable pub advanceOf : List ℕ → Range → ℕ → List ℕ → WithOutput Stepping
 advanceOf log range p out = handReached log out (forwardFrom log range p)
 
--- "Starting and stepping both check refusal 1 first"
+-- 9.3 "1 first, for the cursor too"
 unfoldable pub stepOf : List ℕ → State → Range → ℕ → List ℕ → WithOutput Stepping
 stepOf store st range cursor out =
     pick (badState store (st .length) || badCursor (st .length) cursor) (withOutput (refused 1 0) out)

@@ -1,4 +1,4 @@
--- Which ids a sequence and its words have as noted, whatever the words hold besides.
+-- Rules 10, "Id sequence", 10.6: which ids a sequence and its words have as noted, whatever the words hold besides.
 use Prim.Native.Nat.{ℕ, _-_, _≤_, _<_}
 use mathlib.Core.Path.{_≡_}
 use mathlib.Core.Logic.{_⊎_}

@@ -1,5 +1,5 @@
--- 01, "Id sequence": what making a sequence, noting an id and asking for completeness answer.
--- after is one past "the highest": from start up to but not including after are the ids that remain, none is written as after = start,
+-- Rules 10, "Id sequence": what making a sequence, noting an id and asking for completeness answer.
+-- after is one past "the highest": from start up to but not including after are the ids that remain; after = start where none do,
 -- and since 2^64-1 is never noted after fits 64 bits.
 use Prim.Native.Nat.{ℕ, zero, suc, _+_, _-_, _/_, min, max}
 use mathlib.Core.Bool.{Bool}
@@ -23,11 +23,11 @@ abbrev pub paperNoted : Noted → Noting
 paperNoted (At s) = noted (s .start) (s .after)
 paperNoted (Refused r) = refused (numberOf r) (valueOf r)
 
--- "Made with a start": none is noted
+-- 10.1 "made with a start; no id is noted then"
 abbrev pub newOf : ℕ → IdSequence
 newOf start = record { start = start; after = start }
 
--- "complete": none remain of the ids from start to the highest
+-- 10.5: none remain of the ids from start to the highest
 abbrev pub completeOf : IdSequence → Bool
 completeOf s = leb (s .after) (s .start)
 
@@ -39,16 +39,15 @@ pub record Truncated : Type 0 where
 abbrev pub truncated : ℕ → List ℕ → Truncated
 truncated start words = record { start = start; words = words }
 
--- "take the first 64 of them, or all if fewer"
+-- 10.4 "the first 64 of them, or all if they are fewer"
 abbrev pub next : ℕ → ℕ → ℕ
 next after start = min 64 (after - start)
 
--- the words once "start moves past them": down by one; where none remain, no bit of them is of a noted id, and they stay
+-- 10.7 "each time that start moves past 64 ids and more remain, the words move down by one": where none remain, no bit of them is of a noted id, and they stay
 abbrev pub passed : ℕ → ℕ → List ℕ → List ℕ
 passed after start words = pick (ltb 64 (after - start)) (shifted words) words
 
--- "while ids from start to the highest remain, take the first 64 of them, or all if fewer; if all are noted, start moves past them, else stop":
--- so at most k times
+-- 10.4 "while ids from start to the highest remain .. if all are noted, start moves past them, else that is the end": so at most k times
 unfoldable pub rounds : ℕ → ℕ → ℕ → List ℕ → Truncated
 rounds zero after start words = truncated start words
 rounds (suc k) after start words =
@@ -62,12 +61,12 @@ rounds (suc k) after start words =
 abbrev pub truncateOf : ℕ → ℕ → List ℕ → Truncated
 truncateOf after start words = rounds (after - start) after start words
 
--- "Noting an id stores it": its bit is set, once the words up to its own hold nothing above the highest, where no id was noted
+-- 10.7 "the words up to the id's own lose every bit that is of no id up to the highest so far; the id's bit is set"
 abbrev pub stored : IdSequence → List ℕ → ℕ → List ℕ
 stored s words id =
     markedAt (only (s .after - s .start) ((id - s .start) / 64 + 1) words) (id - s .start)
 
--- "and raises the highest"
+-- 10.3 "is the highest if it is above the highest so far"
 abbrev pub raised : IdSequence → ℕ → ℕ
 raised s id = max (s .after) (id + 1)
 
@@ -83,8 +82,7 @@ outcome answer words = record { answer = answer; words = words }
 abbrev pub afterMove : ℕ → Truncated → Outcome
 afterMove after m = outcome (noted (m .start) after) (m .words)
 
--- 11 for "an id noted below the sequence's start", 12 for one "4,096 or more above it, or 2^64-1", with the words unchanged;
--- else the id is stored, the highest raised, "then" start moves
+-- 10.2 "11 if it is below start, 12 if it is 4,096 or more above start or is 2^64-1", with the words unchanged; 10.3 "Else the id is noted"; 10.4 "Then"
 unfoldable pub noteOf : IdSequence → List ℕ → ℕ → Outcome
 noteOf s words id =
     pick (ltb id (s .start)) (outcome (refused 11 0) words)

@@ -1,4 +1,4 @@
--- 01, "Id sequence": "Window: 4,096 ids from start", in 64 words. Bit k of them is for the id start + k.
+-- Rules 10, "Id sequence", 10.6: the 64 words of 64 bits, and so 4,096 ids from start on.
 use Prim.Native.Nat.{ℕ, zero, suc, _+_, _-_, _/_, _%_, _^_}
 use mathlib.Core.Bool.{Bool}
 use mathlib.Core.List.{List, [], _∷_, _++_}
@@ -10,7 +10,7 @@ use Rattle.refusal.specs.Pick.{pick}
 abbrev pub bit : ℕ → ℕ → ℕ
 bit word k = word / 2 ^ k % 2
 
--- bit k of the words, of which each holds 64
+-- 10.6 "Bit k of them", each holding 64
 abbrev pub bitAt : List ℕ → ℕ → ℕ
 bitAt words k = bit (getD words (k / 64) 0) (k % 64)
 
@@ -22,7 +22,7 @@ marked word k = pick (eqb (bit word k) 1) word (word + 2 ^ k)
 abbrev pub markedAt : List ℕ → ℕ → List ℕ
 markedAt words k = set words (k / 64) (marked (getD words (k / 64) 0) (k % 64))
 
--- "all are noted": the first n bits of a word are set
+-- 10.4 "all are noted": the first n bits of a word are set
 abbrev pub allNoted : ℕ → ℕ → Bool
 allNoted word n = eqb (word % 2 ^ n) (2 ^ n - 1)
 
@@ -36,7 +36,7 @@ only n zero words = words
 only n (suc count) [] = []
 only n (suc count) (word ∷ words) = lowest word n ∷ only (n - 64) count words
 
--- the words move down by one, and a zero comes in at the end
+-- 10.7 "the words move down by one and a zero comes in last"
 unfoldable pub shifted : List ℕ → List ℕ
 shifted [] = []
 shifted (word ∷ words) = words ++ (0 ∷ [])

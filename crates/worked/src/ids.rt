@@ -1,4 +1,4 @@
-// 01, "Id sequence": nebari's own tests, the window's edges, and ids noted twice.
+// The id sequence: nebari's own tests, the window's edges, and ids noted twice.
 ghost use Prim.Native.Nat.{_+_, _<_};
 use crate::parts::letter;
 use crate::parts::number;

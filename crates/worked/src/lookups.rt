@@ -1,4 +1,4 @@
-// Lookups in logs that are written entry by entry: 01's cases, idle pages, far ids, long entries, damage and small outputs.
+// Lookups in logs that are written entry by entry: the rules' cases, idle pages, far ids, long entries, damage and small outputs.
 use crate::building::handed;
 use crate::parts::number;
 use crate::say;

@@ -1,4 +1,4 @@
-// Runs the cases of document 01 by the real code, and says what each gave.
+// Runs the worked cases of the rules, and many more, by the real code, and says what each gave.
 mod building;
 mod ids;
 mod lookups;

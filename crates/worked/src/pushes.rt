@@ -1,4 +1,4 @@
-// Pushes onto small stores: 01's cases, every refusal of a batch, full stores, long payloads and a batch of 1,000 entries.
+// Pushes onto small stores: the rules' cases, every refusal of a batch, full stores, long payloads and a batch of 1,000 entries.
 use crate::building;
 use crate::building::is_mixed;
 use crate::lookups::answer;

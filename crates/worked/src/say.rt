@@ -74,7 +74,7 @@ pub fn bytes(values: &[u8]) {
     }
 }
 
-// A refusal as document 01 names it: its number, and the page or length.
+// A refusal as the rules name it: its number, and the page or length.
 pub fn refusal(r: Refusal) {
     let n = r.number();
     one(b"refusal #", n);

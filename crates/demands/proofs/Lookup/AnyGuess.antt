@@ -109,7 +109,7 @@ module _ (log : List ℕ) (s : Sound log) where
     any-guess-right next g =
         any-around g (record { low = λ p h m. absurd (omega arith); high = λ p h m. absurd (omega (arith, h .inside)); top = omega arith; edge = inl refl })
 
--- ---- 01's rule is one way to guess
+-- ---- the rule's is one way to guess
 
 module _ (log : List ℕ) (id : ℕ) where
   module _ (k : ℕ) (w : Window) (b : Between id w) (g : ℕ) (i : InWindow w g)

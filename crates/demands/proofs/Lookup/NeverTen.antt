@@ -1,4 +1,4 @@
--- 01, "Scan": "starting copies nothing, so it never answers 10", since the search that it rests on does not. Assumes nothing.
+-- 9.2: the start of a scan never answers 10, since the search that it rests on does not. Assumes nothing.
 use Prim.Native.Nat.{ℕ}
 use mathlib.Core.Path.{_≡_, refl, subst}
 use mathlib.Core.Bool.{Bool, true, false}

@@ -1,4 +1,4 @@
--- 01, "Lookup": on a sound log, with enough buffer, an id from 1 to below next is found exactly if stored, with its position, data length and data; else it is absent at the first greater entry, or at the log's end. Assumes nothing.
+-- 11.4: on a sound log, with enough buffer, an id from 1 to below next is found exactly if stored, with its position, data length and data; else it is absent at the first greater entry, or at the log's end. Assumes nothing.
 use Prim.Native.Nat.{ℕ, _*_, _≤_, _<_}
 use mathlib.Core.Path.{_≡_, refl, sym, _∙_}
 use mathlib.Core.Logic.{⊎-elim}

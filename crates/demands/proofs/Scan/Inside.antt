@@ -1,4 +1,4 @@
--- 01, "Scan": "10 only if its id is in the range": a step comes to no other entry, on any log. Assumes nothing.
+-- 9.4, 9.5: a step comes to no entry out of the range, on any log, so that 10 is of an entry of the range alone. Assumes nothing.
 use Prim.Native.Nat.{ℕ}
 use mathlib.Core.Path.{_≡_, subst}
 use mathlib.Core.Bool.{true}

@@ -43,7 +43,7 @@ pub record InWindow (w : Window) (g : ℕ) : Type 0 where
   pub low : w .lo ≤ g
   pub high : g < w .hi
 
--- 01's guess is one
+-- the rule's guess is one
 pub guess-inside : (id : ℕ) (w : Window) → w .lo < w .hi → InWindow w (guessIn id w)
 unfolding offsetOf
 guess-inside id w h = record { low = omega arith; high = omega arith }
