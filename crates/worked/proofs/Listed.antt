@@ -1,4 +1,4 @@
--- 01, "Logs and batches worked through": the cases marked M, one list under one statement. Assumes nothing.
+-- Rules 13, "Worked cases": all but 13.6, which is too long for a list, in one list under one statement. Assumes nothing.
 use mathlib.Core.Path.{_≡_, refl}
 use mathlib.Core.Bool.{Bool, true, false}
 use mathlib.Core.List.{List, [], _∷_, _++_}
@@ -54,9 +54,9 @@ ofAnswer false = 0
 abbrev hello : List ℕ
 hello = 0x68 ∷ 0x65 ∷ 0x6c ∷ 0x6c ∷ 0x6f ∷ []
 
--- the push of (1, "hello") then (2, none) from fresh, in a store of two pages
+-- the push of (1, "hello") and (2, no data) from fresh, in a store of two pages that hold 255
 abbrev helloPush : Done
-helloPush = pushOf (replicate 2048 0) fresh (1 ∷ 2 ∷ []) (5 ∷ 5 ∷ []) hello
+helloPush = pushOf (replicate 2048 255) fresh (1 ∷ 2 ∷ []) (5 ∷ 5 ∷ []) hello
 
 -- ten one-page entries 1 to 10
 abbrev tenPush : Done
@@ -91,36 +91,36 @@ computed =
     ∷ (ofAnswer (notes (3 ∷ [])) ∷ ofAnswer (notes (3 ∷ 1 ∷ [])) ∷ ofAnswer (notes (3 ∷ 1 ∷ 2 ∷ [])) ∷ ofAnswer (notes (3 ∷ 1 ∷ 2 ∷ 4 ∷ [])) ∷ [])
     ∷ []
 
--- each case as 01 has it
+-- each case as the rules have it
 pub asWritten : List (List ℕ)
 asWritten =
-    -- "Pages for payloads 8, 1,020, 1,021, 2,043, 2,044, 3,000, 16,777,215: 1, 1, 2, 2, 3, 3, 16,401"
+    -- 13.1: pages for seven payloads
     (1 ∷ 1 ∷ 2 ∷ 2 ∷ 3 ∷ 3 ∷ 16401 ∷ [])
-    -- "Push of (1, "hello") then (2, none) from fresh": no refusal, two written, "State 2,048, 2, 1"
+    -- 13.2: no refusal, two entries written, the state
     ∷ (0 ∷ 2 ∷ 2048 ∷ 2 ∷ 1 ∷ [])
-    -- "Page 0: 01 00 00 0D, seven 00, 01, 68 65 6C 6C 6F, 1,007 zeros"
+    -- 13.2: page 0
     ∷ ((1 ∷ 0 ∷ 0 ∷ 0x0d ∷ 0 ∷ 0 ∷ 0 ∷ 0 ∷ 0 ∷ 0 ∷ 0 ∷ 1 ∷ 0x68 ∷ 0x65 ∷ 0x6c ∷ 0x6c ∷ 0x6f ∷ []) ++ replicate 1007 0)
-    -- "Page 1: 01 00 00 08, seven 00, 02, then the stale 68 65 6C 6C 6F, 1,007 zeros"
+    -- 13.2: page 1, with what page 0 left as filling
     ∷ ((1 ∷ 0 ∷ 0 ∷ 0x08 ∷ 0 ∷ 0 ∷ 0 ∷ 0 ∷ 0 ∷ 0 ∷ 0 ∷ 2 ∷ 0x68 ∷ 0x65 ∷ 0x6c ∷ 0x6c ∷ 0x6f ∷ []) ++ replicate 1007 0)
-    -- "A lookup of 1 is then absent at 2,048, since next is 1"
+    -- 13.2: 1 is absent at 2,048
     ∷ (0 ∷ 2048 ∷ [])
-    -- "Ten one-page entries 1 to 10": ten written
+    -- 13.3: ten entries written
     ∷ (0 ∷ 10 ∷ 10240 ∷ 10 ∷ 1 ∷ [])
-    -- "next 11: the first guess for 5 is page 4"
+    -- 13.3: the first guess for 5
     ∷ (4 ∷ [])
-    -- "The log of six pages above": id 1 with payload 3,000, ids 2, 3, 4
+    -- 13.4: four entries written on six pages
     ∷ (0 ∷ 4 ∷ 6144 ∷ 4 ∷ 1 ∷ [])
-    -- "2 is found at 3,072", next being 8
+    -- 13.4: 2 is found at 3,072
     ∷ (1 ∷ 3072 ∷ 0 ∷ [])
-    -- "Last written 5, ids 6, 6: one written, refusal 2, last written 6"
+    -- 13.5: refusal 2, one entry written, last written 6
     ∷ (2 ∷ 1 ∷ 1024 ∷ 6 ∷ 1 ∷ [])
-    -- "Length 1,030, page 0 holding id 9: excess 6, state 1,024, 9, 10"
+    -- 13.7: the excess and the state
     ∷ (6 ∷ 1024 ∷ 9 ∷ 10 ∷ [])
-    -- "Sequence from 1: note 3, 1, 2, 4 gives complete no, no, yes, yes"
+    -- 13.8: complete, 1 for yes
     ∷ (0 ∷ 0 ∷ 1 ∷ 1 ∷ [])
     ∷ []
 
--- THE M CASES: what the definitions compute is what 01 says
+-- what the definitions compute is what the rules say
 pub worked : computed ≡ asWritten
 unfolding computed asWritten ofState ofLook ofWhy ofPush ofRecovery ofAnswer pagesFor pageAt numberAt bytesOf markAt lengthAt idAt entryAt blank firstPage laterPage laterPages laterImage entryPages entryImage tooLong badState leastFrom leastShift offsetOf compared sayingAt turned walk search searchOf findOf atLast walkBack recoverLog recoverOf entryData some badEnd badBatch largeData someLarge wrote writing turn entriesFrom pushOf only shifted rounds noteOf answered run
 worked = refl

@@ -1,7 +1,14 @@
--- The theorems are about something: a sound log of several entries with an idle page, and a history in which one settled id is found and another absent. Assumes nothing.
-use Prim.Native.Nat.{ℕ, _≤_, _<_}
+-- Witnesses: what the theorems of demands ask for can be had, and what they then say. Assumes nothing.
+--   checked-sound, lookup-right, scan-right   a sound log of two entries with an idle page between: store-is-sound, three-looked-up, all-scanned
+--   settled, begun-settled                    its recovered state, from which 3 stays found and 2 absent: three-stays-found, two-stays-absent, three-was-given
+--   push-right, read-back                     two ids taken and the second one pushed: five-is-held, five-reads-back, five-stays-read
+--   any-guess-right                           guesses that are not the rule's: other-guesses
+--   recover-right, recover-alike              a length with an excess, and a log that differs before its last entry: excess-recovers, recovers-alike
+--   data-one-part                             the data of an entry of one page: five-bytes
+-- and examples of what is not promised, 12.1 to 12.3: flipped-is-sound, dropped-comes-again, fault-unseen
+use Prim.Native.Nat.{ℕ, zero, suc, _≤_, _<_}
 use mathlib.Core.Path.{_≡_, refl}
-use mathlib.Core.Logic.{⊎-elim}
+use mathlib.Core.Logic.{_⊎_, inl, inr, ⊎-elim}
 use mathlib.Core.List.{List, [], _∷_, _++_, List·Memᴰ·head}
 use native.Mathlib.Omega.{arith}
 use lib.Dec.{lit<, lit≤}
@@ -11,24 +18,32 @@ use Rattle.page.specs.Bytes.{numberAt, bytesOf}
 use Rattle.page.specs.Mark.{markAt}
 use Rattle.page.specs.Entry.{lengthAt, idAt, entryAt}
 use Rattle.page.specs.Data.{placeOf, dataOf, dataAt}
-use Rattle.page.specs.Write.{blank, firstPage, laterPage, laterPages, entryPages}
+use Rattle.page.specs.Write.{blank, firstPage, laterPage, laterPages, laterImage, entryPages, entryImage}
 use Rattle.log.specs.Round.{stop, again}
 use Rattle.log.specs.Bounds.{tooLong, badState, Fits}
-use Rattle.log.specs.State.{stateOf}
-use Rattle.demands.specs.Sound.{Sound, SoundStore, Last}
+use Rattle.log.specs.State.{stateOf, takeOf}
+use Rattle.demands.specs.Sound.{Start, SoundStore, Last}
+use Rattle.demands.specs.Push.{RightPush}
 use Rattle.demands.specs.Recovery.{RightRecovery}
-use Rattle.demands.specs.Lookup.{present, missing, AnyGuess, stops, narrows}
+use Rattle.demands.specs.Lookup.{present, missing, Room, RightLookup, AnyGuess, stops, narrows}
+use Rattle.demands.specs.Scan.{Enough, Scans}
 use Rattle.log.specs.Guess.{leastFrom, leastShift, offsetOf}
-use Rattle.log.specs.Lookup.{found, roundFrom, window, allPages, compared, sayingAt, turned, walk, search, searchOf, findOf}
+use Rattle.log.specs.Lookup.{found, roundFrom, window, allPages, compared, sayingAt, turned, walk, search, searchOf, findOf, lookupOf}
 use Rattle.log.specs.Check.{laterMarks, checkStart, checkPage, checkEnd, checkFrom, checkOf}
-use Rattle.log.specs.Recovery.{atLast, walkBack, recoverLog, recoverOf}
-use Rattle.demands.specs.History.{World, world, logOf, Call, lookup, answer, run, Begun, Settled, LooksUp, said, Gives, find}
-use Rattle.refusal.proofs.Cases.{order}
+use Rattle.log.specs.Recovery.{cutLog, atLast, walkBack, recoverLog, recoverOf}
+use Rattle.pushing.specs.Push.{entryData, some, badEnd, badBatch, largeData, someLarge, wrote, writing, turn, entriesFrom, pushOf}
+use Rattle.scanning.specs.Scan.{scanOf}
+use Rattle.scanning.specs.declared.Range.{Range}
+use Rattle.scanning.specs.declared.End.the-variants.{Open}
+use Rattle.demands.specs.History.{World, world, logOf, Words, Call, push, take-id, find, lookup, recover, answer, step, run, said, Begun, Settled, LooksUp, Gives, Answers, ReadsBack}
 use Rattle.page.proofs.Runs.{data-one-part}
 use Rattle.demands.proofs.Check.Passing.{checked-sound}
-use Rattle.demands.proofs.Recovery.Resuming.{recover-right}
+use Rattle.demands.proofs.Push.Batch.{push-right}
+use Rattle.demands.proofs.Recovery.Resuming.{recover-right, recover-alike}
 use Rattle.demands.proofs.History.Lasting.{standingData}
-use Rattle.demands.proofs.History.Demands.{begun-settled, settled}
+use Rattle.demands.proofs.Lookup.Right.{lookup-right}
+use Rattle.demands.proofs.Scan.Right.{scan-right}
+use Rattle.demands.proofs.History.Demands.{begun-lives, begun-settled, settled, read-back}
 use Rattle.worked.proofs.Listed.{ninePage}
 
 -- ---- a sound log: id 1 with a byte, an idle page, id 3 on two pages
@@ -43,9 +58,9 @@ twoPages = replicate 1013 9
 abbrev store : List ℕ
 store = entryPages blank 1 oneByte ++ (replicate 1024 0 ++ (entryPages blank 3 twoPages ++ replicate 2048 0))
 
-pub store-is-sound : Sound (take 4096 store)
+pub store-is-sound : SoundStore store 4096
 unfolding pagesFor pageAt numberAt bytesOf markAt lengthAt idAt entryAt blank firstPage laterPage laterPages entryPages tooLong laterMarks checkStart checkPage checkEnd checkFrom checkOf
-store-is-sound = checked-sound store 4096 .0 refl .sound
+store-is-sound = checked-sound store 4096 .0 refl
 
 -- ---- its recovered state
 
@@ -54,16 +69,21 @@ begins = world store (stateOf 4096 3 4)
 
 begins-there : Begun begins
 unfolding pagesFor pageAt numberAt bytesOf markAt lengthAt idAt entryAt blank firstPage laterPage laterPages entryPages tooLong atLast walkBack recoverLog recoverOf
-begins-there = record { size = 4096; sound = store-is-sound; excess = 0; is = refl }
+begins-there = record { size = 4096; sound = store-is-sound .sound; excess = 0; is = refl }
+
+starts-there : (p : ℕ) → Start (logOf begins) p → (p ≡ 0) ⊎ (p ≡ 2)
+unfolding pagesFor pageAt bytesOf markAt blank firstPage laterPage laterPages entryPages
+starts-there zero h = inl refl
+starts-there (suc zero) h = absurd (let y : _≡_ {A = ℕ} 0 1 = h .marked in omega arith)
+starts-there (suc (suc zero)) h = inr refl
+starts-there (suc (suc (suc zero))) h = absurd (let y : _≡_ {A = ℕ} 0 1 = h .marked in omega arith)
+starts-there (suc (suc (suc (suc p)))) h = absurd (let i : suc (suc (suc (suc p))) < 4 = h .inside in omega arith)
 
 last-there : Last (logOf begins) 2
 unfolding pagesFor pageAt bytesOf markAt blank firstPage laterPage laterPages entryPages
 last-there = record {
   start = record { inside = lit< tt; marked = refl };
-  none = λ q h. ⊎-elim
-      (λ e. absurd (let z : markAt (logOf begins) 3 ≡ 1 = rw e at (h .marked) in let y : _≡_ {A = ℕ} 0 1 = z in omega arith))
-      (⊎-elim (λ l. omega arith) (λ l. absurd (let i : q < 4 = h .inside in omega arith)))
-      (order q 3);
+  none = λ q h. ⊎-elim (λ e. omega arith) (λ e. omega arith) (starts-there q h);
 }
 
 three-is : idAt (logOf begins) 2 ≡ 3
@@ -88,7 +108,65 @@ pub three-was-given : Gives (find 3) (answer begins (find 3)) 3 (present 2048 10
 unfolding pagesFor pageAt numberAt bytesOf markAt lengthAt idAt entryAt placeOf dataOf dataAt blank firstPage laterPage laterPages entryPages tooLong badState leastFrom leastShift offsetOf compared sayingAt turned walk search searchOf findOf standingData settled run said
 three-was-given = settled begins begins-there [] 3 (settled-there 3 (lit≤ tt) (lit≤ tt)) .gave (find 3 ∷ []) (record { call = find 3; reply = answer begins (find 3) }) (List·Memᴰ·head refl)
 
--- ---- guesses that are not 01's come to the same answer: the first of all pages, and then the last of those left
+-- ---- a lookup and a scan of that log, each with enough output
+
+three-fits : (out : List ℕ) → 1013 ≤ length out → Room (logOf begins) 3 out
+unfolding pagesFor pageAt numberAt bytesOf markAt lengthAt idAt blank firstPage laterPage laterPages entryPages
+three-fits out enough position len stored = ⊎-elim
+    (λ e. absurd (let y : _≡_ {A = ℕ} 1 3 = rw e at (stored .has) in omega arith))
+    (λ e. let y : len ≡ 1013 = rw e at (stored .size) in omega arith)
+    (starts-there (stored .page) (stored .start))
+
+pub three-looked-up : (out : List ℕ) → 1013 ≤ length out → RightLookup (logOf begins) 3 out (lookupOf store (begins .state) 3 out)
+three-looked-up out enough = lookup-right store (begins .state) 3 store-is-sound (lit≤ tt) (lit< tt) out (three-fits out enough)
+
+abbrev every : Range
+every = record { lower = Open; upper = Open }
+
+all-fit : Enough (logOf begins) every 1013
+unfolding pagesFor pageAt numberAt bytesOf markAt lengthAt blank firstPage laterPage laterPages entryPages
+all-fit p start inside = ⊎-elim (λ e. rw e (lit≤ tt)) (λ e. rw e (lit≤ tt)) (starts-there p start)
+
+pub all-scanned : Scans store (begins .state) every 1013 (scanOf store (begins .state) every)
+all-scanned = scan-right store (begins .state) every 1013 store-is-sound all-fit
+
+-- ---- two ids are taken, and the second, 5, is pushed with a byte: it reads back through any later calls
+
+abbrev takes : List Call
+takes = take-id ∷ take-id ∷ []
+
+pub one-word : Words (5 ∷ [])
+one-word zero = lit< tt
+one-word (suc k) = lit< tt
+
+abbrev pushes-five : Call
+pushes-five = push (5 ∷ []) (1 ∷ []) (8 ∷ []) one-word
+
+pub five-is-held : RightPush (5 ∷ []) (1 ∷ []) (8 ∷ []) (pushOf store (begins .state) (5 ∷ []) (1 ∷ []) (8 ∷ []))
+five-is-held = push-right (5 ∷ []) (1 ∷ []) (8 ∷ []) one-word store (begins .state) (begun-lives begins begins-there)
+
+abbrev pushed-five : World
+pushed-five = step (run begins takes) pushes-five
+
+pub five-reads-back : ReadsBack pushed-five 5 (8 ∷ [])
+unfolding pagesFor pageAt bytesOf blank firstPage laterPage laterPages laterImage entryPages entryImage tooLong badState takeOf entryData some badEnd badBatch largeData someLarge wrote writing turn entriesFrom pushOf answer step run
+five-reads-back = read-back begins begins-there takes (5 ∷ []) (1 ∷ []) (8 ∷ []) one-word 0 (lit< tt)
+
+five-settled : Settled pushed-five 5
+unfolding pagesFor pageAt numberAt markAt idAt bytesOf blank firstPage laterPage laterPages laterImage entryPages entryImage tooLong badState takeOf entryData some badEnd badBatch largeData someLarge wrote writing turn entriesFrom pushOf answer step run
+five-settled = record {
+  some = lit≤ tt;
+  below = lit< tt;
+  page = 4;
+  last = record { start = record { inside = lit< tt; marked = refl }; none = λ q h. let i : q < 5 = h .inside in omega arith };
+  most = lit≤ tt;
+}
+
+pub five-stays-read : (later : List Call) → Answers (run pushed-five later) 5 (present (five-reads-back .position) 1) (8 ∷ [])
+unfolding run
+five-stays-read later = five-reads-back .reads later (settled begins begins-there (take-id ∷ take-id ∷ pushes-five ∷ []) 5 five-settled .kept later .settled .below)
+
+-- ---- guesses that are not the rule's come to the same answer: the first of all pages, and then the last of those left
 
 first-round : roundFrom (logOf begins) 3 (allPages (logOf begins) 4) 0 ≡ again (window 1 4 1 4)
 unfolding pagesFor pageAt numberAt bytesOf markAt lengthAt idAt entryAt blank firstPage laterPage laterPages entryPages compared sayingAt turned walk
@@ -118,7 +196,40 @@ nine-fits = record { small = nine-sound .fits .small; inside = lit≤ tt }
 pub excess-recovers : RightRecovery (take 1024 ninePage) 6 (recoverOf ninePage 1030)
 excess-recovers = recover-right ninePage 1030 nine-fits (nine-sound .sound)
 
--- ---- the data of that entry is a part of its page, and of the log
+-- ---- a log whose first entry has another byte recovers alike: it agrees from page 2 on, where the last entry starts
+
+abbrev other : List ℕ
+other = entryPages blank 1 (6 ∷ []) ++ drop 1024 store
+
+fits-there : Fits other 4096
+unfolding pagesFor bytesOf blank firstPage laterPage laterPages entryPages
+fits-there = record { small = lit≤ tt; inside = lit≤ tt }
+
+same-from-there : drop 2048 (cutLog store 4096) ≡ drop 2048 (cutLog other 4096)
+unfolding pagesFor bytesOf blank firstPage laterPage laterPages entryPages
+same-from-there = refl
+
+pub recovers-alike : recoverOf store 4096 ≡ recoverOf other 4096
+recovers-alike = recover-alike store other 4096 2 (store-is-sound .fits) fits-there (last-there .start) same-from-there
+
+-- ---- what is not promised
+
+-- 12.1: a log with another data byte is as sound
+pub flipped-is-sound : SoundStore other 4096
+unfolding pagesFor pageAt numberAt bytesOf markAt lengthAt idAt entryAt blank firstPage laterPage laterPages entryPages tooLong laterMarks checkStart checkPage checkEnd checkFrom checkOf
+flipped-is-sound = checked-sound other 4096 .0 refl
+
+-- 12.2: an id that was taken and never pushed comes again after a restart
+pub dropped-comes-again : run begins (take-id ∷ recover ∷ take-id ∷ []) ≡ run begins (take-id ∷ [])
+unfolding pagesFor pageAt numberAt bytesOf markAt lengthAt idAt entryAt blank firstPage laterPage laterPages entryPages tooLong takeOf atLast walkBack recoverLog recoverOf answer step run
+dropped-comes-again = refl
+
+-- 12.3: a bad mark on the idle page, which no recovery reads
+pub fault-unseen : recoverOf (take 1024 store ++ (7 ∷ drop 1025 store)) 4096 ≡ recoverOf store 4096
+unfolding pagesFor pageAt numberAt bytesOf markAt lengthAt idAt entryAt blank firstPage laterPage laterPages entryPages tooLong atLast walkBack recoverLog recoverOf
+fault-unseen = refl
+
+-- ---- the data of the entry on that page of id 9 is a part of the log
 
 pub five-bytes : dataAt ninePage 0 5 ≡ take 5 (drop 12 ninePage)
 unfolding pagesFor bytesOf blank firstPage laterPage laterPages entryPages
