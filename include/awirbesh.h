@@ -1,7 +1,8 @@
 /* awirbesh.h: the proved transaction log, for C and for whoever speaks C's calls.
  *
  * Link with target/staticlib/libawirbesh.a (`rt staticlib awirbesh` makes it; x86-64).
- * This file and host/src/ffi.rs state the same interface; a test on each side calls every function.
+ * This file and host/src/ffi.rs state the same interface; a test on each side calls every function. What each call
+ * does is said in full by docs/RULES.md, whose headings are named here as "rules 4".
  *
  * WHO OWNS WHAT. The library owns nothing: it allocates nothing, keeps no pointer after a call returns, has no
  * global state, does no input or output and never stops the program. The caller lends the store, the batch,
@@ -12,15 +13,18 @@
  * WHAT THE CALLER OWES, which no library can test: each pointer is not NULL (also where its length is 0),
  * points to at least as many elements as the length beside it says, is aligned for its type, and what is
  * written to (`store` of a push, `out`, `words`) overlaps nothing else that the same call is lent.
- * Nothing is owed beyond that. Every function ends and answers on every value of every number and byte.
+ * Nothing is owed beyond that. Every function ends and answers on every value of every number and byte (rules 11;
+ * what is not promised, rules 12).
  *
- * THE STORE holds the log in its first `state.length` bytes. At most 2^31 bytes; a longer one is refused with 1.
+ * THE STORE holds the log in its first `state.length` bytes (rules 1). At most 2^31 bytes; a longer one is refused
+ * with 1.
  *
- * NUMBERS. `number` is 0 where the call did what it says, else the number of the refusal, and `value` is
- * what that refusal names: a page for 5 to 8, 14 and 15, the length needed for 10, and 0 for each other.
- * After a refusal every other field is 0, but for the state of a take and a push, the cursor of a step and the
- * sequence of a note, which are there to go on with. Outside a push a refusal changes no byte. Positions,
- * lengths and ends are bytes; a page's number is its position divided by 1,024.
+ * NUMBERS (rules 3). `number` is 0 where the call did what it says, else the number of the refusal, and `value`
+ * is what that refusal names: a page for 5 to 8, 14 and 15, the length needed for 10, and 0 for each other.
+ * After a refusal every other field is 0, but for what is there to go on with: the state of a take and a push, the
+ * cursor of a step, the sequence of a note, and `written` of a push, which still counts the entries that were
+ * written. Outside a push a refusal changes no byte. Positions, lengths and ends are bytes; a page's number is its
+ * position divided by 1,024.
  *
  *    1 bad state        the store is longer than 2^31 bytes, or the length is no multiple of 1,024 or above the
  *                       store's size, or a cursor is not at a page boundary or above the length
@@ -70,7 +74,7 @@ enum {
     AWIRBESH_VALUE_TOO_LARGE = 16
 };
 
-/* ---- what the caller keeps ---- */
+/* ---- what the caller keeps: rules 1, 9, 10 ---- */
 
 /* The log's three numbers. A caller may make one up: a length that cannot be is refused with 1. */
 typedef struct {
@@ -99,7 +103,7 @@ typedef struct {
     uint64_t after;
 } awirbesh_sequence;
 
-/* ---- the state ---- */
+/* ---- the state: rules 1, 5 ---- */
 
 /* The state of an empty log: 0, 0, 1. */
 awirbesh_state awirbesh_fresh(void);
@@ -113,7 +117,7 @@ typedef struct {
 /* Hands out the next id. The state's other numbers are not looked at. */
 awirbesh_taken awirbesh_take(awirbesh_state state);
 
-/* ---- a log as it is found ---- */
+/* ---- a log as it is found: rules 6, 7 ---- */
 
 typedef struct {
     uint64_t number; /* 0 if the log is sound, else 1, 5, 6, 7, 8, 14 or 15 */
@@ -134,7 +138,7 @@ typedef struct {
  * caller cuts the excess from its file. */
 awirbesh_recovered awirbesh_recover(const uint8_t *store, size_t store_len, uint64_t length);
 
-/* ---- reading ---- */
+/* ---- reading: rules 8, 9; what a sound log is, rules 2 ---- */
 
 typedef struct {
     uint64_t number; /* 0, 1, 5, 6, 7 or, of a lookup alone, 10 */
@@ -176,11 +180,11 @@ typedef struct {
 awirbesh_stepped awirbesh_step(const uint8_t *store, size_t store_len, awirbesh_state state, awirbesh_range range,
                                uint64_t cursor, uint8_t *out, size_t out_len);
 
-/* ---- writing ---- */
+/* ---- writing: rules 4 ---- */
 
 typedef struct {
     uint64_t number;      /* 0, 1, 2, 3, 4, 13 or 16 */
-    uint64_t written;     /* entries written, the first ones of the batch, refused or not */
+    uint64_t written;     /* entries written, the first ones of the batch; stays after a refusal */
     awirbesh_state state; /* the state to go on with, refused or not */
 } awirbesh_pushed;
 
@@ -192,7 +196,7 @@ awirbesh_pushed awirbesh_push(uint8_t *store, size_t store_len, awirbesh_state s
                               size_t ids_len, const uint64_t *ends, size_t ends_len, const uint8_t *data,
                               size_t data_len);
 
-/* ---- the id sequence ---- */
+/* ---- the id sequence: rules 10 ---- */
 
 /* A sequence with nothing noted. It needs no words, and those that are lent to its first note may hold anything. */
 awirbesh_sequence awirbesh_sequence_new(uint64_t start);
