@@ -1,11 +1,11 @@
-//! Why the Rust departs: each rule is an entry of docs/DIFFERENCES.md, and looks at the cause, not at the answer alone.
+//! Why the Rust departs: each departure is an entry of docs/DIFFERENCES.md, told by its cause and not by the answer alone.
 use nebari::transaction::log::probe::guess;
 
 use crate::{rust::caught, Held, Looked, Pair, PAGE};
 
 /// An entry of docs/DIFFERENCES.md that explains a disagreement on the compared domain.
 #[derive(Clone, Copy, Debug, PartialEq, Eq, PartialOrd, Ord)]
-pub enum Rule {
+pub enum Departure {
     LaterPages,
     IdlePages,
     FarApart,
@@ -17,31 +17,31 @@ pub enum Rule {
     LastTake,
 }
 
-impl Rule {
-    pub const ALL: [Rule; 9] = [
-        Rule::LaterPages,
-        Rule::IdlePages,
-        Rule::FarApart,
-        Rule::AbsentPosition,
-        Rule::NoRoom,
-        Rule::LowNote,
-        Rule::WideNote,
-        Rule::LastNote,
-        Rule::LastTake,
+impl Departure {
+    pub const ALL: [Departure; 9] = [
+        Departure::LaterPages,
+        Departure::IdlePages,
+        Departure::FarApart,
+        Departure::AbsentPosition,
+        Departure::NoRoom,
+        Departure::LowNote,
+        Departure::WideNote,
+        Departure::LastNote,
+        Departure::LastTake,
     ];
 
     /// The heading of its entry.
     pub fn heading(self) -> &'static str {
         match self {
-            Rule::LaterPages => "A stored id is lost behind later pages",
-            Rule::IdlePages => "A stored id is lost behind idle pages",
-            Rule::FarApart => "Ids far apart overflow the page product",
-            Rule::AbsentPosition => "The position of an absent id",
-            Rule::NoRoom => "A store has an end",
-            Rule::LowNote => "An id noted below the start",
-            Rule::WideNote => "An id noted outside the window",
-            Rule::LastNote => "The last id noted",
-            Rule::LastTake => "The last id taken",
+            Departure::LaterPages => "A stored id is lost behind later pages",
+            Departure::IdlePages => "A stored id is lost behind idle pages",
+            Departure::FarApart => "Ids far apart overflow the page product",
+            Departure::AbsentPosition => "The position of an absent id",
+            Departure::NoRoom => "A store has an end",
+            Departure::LowNote => "An id noted below the start",
+            Departure::WideNote => "An id noted outside the window",
+            Departure::LastNote => "The last id noted",
+            Departure::LastTake => "The last id taken",
         }
     }
 }
@@ -97,14 +97,13 @@ fn follow(pair: &Pair, id: u64) -> Search {
     }
 }
 
-/// The rule for a lookup on which the Rust does not give the truth; none if no entry names the cause.
-pub fn of_lookup(pair: &Pair, id: u64, rust: &Looked, truth: &Looked) -> Option<Rule> {
+/// The departure for a lookup on which the Rust does not give the truth; none if no entry names the cause.
+pub fn of_lookup(pair: &Pair, id: u64, rust: &Looked, truth: &Looked) -> Option<Departure> {
     let search = follow(pair, id);
     match (rust, truth) {
-        (Looked::Panicked(text), _) => {
-            (cfg!(debug_assertions) && search.overflowed && text.contains("with overflow")).then_some(Rule::FarApart)
-        }
-        (Looked::Absent { .. }, Looked::Found { .. }) if search.overflowed => Some(Rule::FarApart),
+        (Looked::Panicked(text), _) => (cfg!(debug_assertions) && search.overflowed && text.contains("with overflow"))
+            .then_some(Departure::FarApart),
+        (Looked::Absent { .. }, Looked::Found { .. }) if search.overflowed => Some(Departure::FarApart),
         (Looked::Absent { .. }, Looked::Found { .. }) => {
             let (page, lower) = search.last?;
             let lower = lower?;
@@ -112,24 +111,24 @@ pub fn of_lookup(pair: &Pair, id: u64, rust: &Looked, truth: &Looked) -> Option<
             if pair.met_walking_back(page)?.id != lower.id {
                 return None;
             }
-            Some(if page < lower.page + lower.pages { Rule::LaterPages } else { Rule::IdlePages })
+            Some(if page < lower.page + lower.pages { Departure::LaterPages } else { Departure::IdlePages })
         }
         // Before the right place, at an entry below the id: a scan from there still meets every entry above it.
         (Looked::Absent { position }, Looked::Absent { position: right }) => {
             let met = pair.held.iter().find(|held| held.page * PAGE == *position)?;
-            (position < right && met.id < id).then_some(Rule::AbsentPosition)
+            (position < right && met.id < id).then_some(Departure::AbsentPosition)
         }
         _ => None,
     }
 }
 
-/// The rule for a scan in which the Rust does not give the truth.
-pub fn of_scan(pair: &Pair, lower: Option<u64>, rust_panic: Option<&str>) -> Option<Rule> {
+/// The departure for a scan in which the Rust does not give the truth.
+pub fn of_scan(pair: &Pair, lower: Option<u64>, rust_panic: Option<&str>) -> Option<Departure> {
     let overflowed = lower.is_some_and(|id| id > 0 && id < pair.state().next && follow(pair, id).overflowed);
-    (cfg!(debug_assertions) && overflowed && rust_panic?.contains("with overflow")).then_some(Rule::FarApart)
+    (cfg!(debug_assertions) && overflowed && rust_panic?.contains("with overflow")).then_some(Departure::FarApart)
 }
 
-/// A rule names its cause and nothing else: answers that no cause explains stay without a name.
+/// A departure names its cause and nothing else: answers that no cause explains stay without a name.
 #[cfg(test)]
 mod tests {
     use super::*;

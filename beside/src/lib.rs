@@ -2,20 +2,20 @@
 //!
 //! [`Pair`] holds both sides of one log and compares them call by call. What the entries really are is known from
 //! what was pushed, so each comparison is of three: the truth, the proved library, which must give the truth always,
-//! and the Rust, each of whose departures must have a [`Rule`] that names an entry of docs/DIFFERENCES.md.
+//! and the Rust, which may depart only by a [`Departure`], an entry of docs/DIFFERENCES.md.
 pub mod chance;
+pub mod departures;
 pub mod ours;
 pub mod pair;
 pub mod replay;
-pub mod rules;
 pub mod rust;
 pub mod tally;
 
 use std::ops::Bound;
 
 pub use awirbesh::State;
+pub use departures::Departure;
 pub use pair::Pair;
-pub use rules::Rule;
 pub use tally::Tally;
 
 pub const PAGE: u64 = 1024;

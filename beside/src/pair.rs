@@ -3,7 +3,7 @@ use std::ops::{Bound, RangeBounds};
 
 use awirbesh::lent;
 
-use crate::{ours::Ours, rules, rust::Rust, Entry, Held, Ids, Looked, PushedBy, RecoveredBy, Rule, Scanned};
+use crate::{departures, ours::Ours, rust::Rust, Departure, Entry, Held, Ids, Looked, PushedBy, RecoveredBy, Scanned};
 use crate::{State, Tally, PAGE};
 
 pub struct Pair {
@@ -101,7 +101,7 @@ impl Pair {
         self.walk_back.get(page as usize).map(|&at| &self.held[at])
     }
 
-    /// What 01 says of an id on a sound log.
+    /// What the rules say of an id on a sound log.
     pub fn truth(&self, id: u64) -> Looked {
         if id == 0 {
             return Looked::Absent { position: 0 };
@@ -131,12 +131,14 @@ impl Pair {
         if by_rust == truth {
             return;
         }
-        match rules::of_lookup(self, id, &by_rust, &truth) {
-            Some(rule) => {
+        match departures::of_lookup(self, id, &by_rust, &truth) {
+            Some(departure) => {
                 let size = (self.pages(), self.state().next, id);
-                tally.name(rule, size, || format!("{}; id {id}", self.words()));
+                tally.name(departure, size, || format!("{}; id {id}", self.words()));
             }
-            None => panic!("no rule names it: id {id} in {}: the Rust {by_rust:?}, 01 {truth:?}", self.words()),
+            None => {
+                panic!("no departure names it: id {id} in {}: the Rust {by_rust:?}, the rules {truth:?}", self.words())
+            }
         }
     }
 
@@ -163,12 +165,14 @@ impl Pair {
             Scanned::Panicked(text) => Some(text.as_str()),
             _ => None,
         };
-        match rules::of_scan(self, lower, panic) {
-            Some(rule) => {
+        match departures::of_scan(self, lower, panic) {
+            Some(departure) => {
                 let size = (self.pages(), self.state().next, lower.unwrap_or(0));
-                tally.name(rule, size, || format!("{}; scan {ids:?}", self.words()));
+                tally.name(departure, size, || format!("{}; scan {ids:?}", self.words()));
             }
-            None => panic!("no rule names it: {ids:?} in {}: the Rust {by_rust:?}, 01 {truth:?}", self.words()),
+            None => {
+                panic!("no departure names it: {ids:?} in {}: the Rust {by_rust:?}, the rules {truth:?}", self.words())
+            }
         }
     }
 
@@ -206,7 +210,7 @@ impl Pair {
         assert_eq!(state.last, batch[written as usize].id, "4 uses up the id");
         tally.compared("pushes without room");
         let input = || format!("a store of {} bytes, push of {:?}", self.ours.store.len(), ids_of(batch));
-        tally.name(Rule::NoRoom, (self.ours.store.len() as u64, batch.len() as u64, 0), input);
+        tally.name(Departure::NoRoom, (self.ours.store.len() as u64, batch.len() as u64, 0), input);
     }
 }
 

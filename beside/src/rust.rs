@@ -107,13 +107,13 @@ impl Rust {
     }
 }
 
-/// The number of 01 for an error of the Rust's push.
+/// The refusal's number for an error of the Rust's push.
 fn number_of(error: &Error) -> u64 {
     match &error.kind {
         ErrorKind::TransactionPushedOutOfOrder => 2,
         ErrorKind::Message(text) if text == "transaction too large" => 3,
         ErrorKind::ValueTooLarge => 16,
-        other => panic!("an error of the push that 01 has no number for: {other:?}"),
+        other => panic!("an error of the push that no refusal stands for: {other:?}"),
     }
 }
 

@@ -1,12 +1,12 @@
-//! What was compared, and how often each rule was needed.
+//! What was compared, and how often each departure was needed.
 use std::collections::BTreeMap;
 
-use crate::Rule;
+use crate::Departure;
 
 #[derive(Default)]
 pub struct Tally {
     pub compared: BTreeMap<&'static str, u64>,
-    pub needed: BTreeMap<Rule, Needed>,
+    pub needed: BTreeMap<Departure, Needed>,
 }
 
 pub struct Needed {
@@ -24,11 +24,11 @@ impl Tally {
         *self.compared.entry(what).or_default() += times;
     }
 
-    /// A disagreement that a rule names, with its input and a size to find the smallest by.
-    pub fn name(&mut self, rule: Rule, size: (u64, u64, u64), input: impl FnOnce() -> String) {
-        match self.needed.get_mut(&rule) {
+    /// A disagreement that a departure names, with its input and a size to find the smallest by.
+    pub fn name(&mut self, departure: Departure, size: (u64, u64, u64), input: impl FnOnce() -> String) {
+        match self.needed.get_mut(&departure) {
             None => {
-                self.needed.insert(rule, Needed { times: 1, smallest: (size, input()) });
+                self.needed.insert(departure, Needed { times: 1, smallest: (size, input()) });
             }
             Some(needed) => {
                 needed.times += 1;
@@ -39,12 +39,12 @@ impl Tally {
         }
     }
 
-    pub fn times(&self, rule: Rule) -> u64 {
-        self.needed.get(&rule).map_or(0, |needed| needed.times)
+    pub fn times(&self, departure: Departure) -> u64 {
+        self.needed.get(&departure).map_or(0, |needed| needed.times)
     }
 
-    pub fn smallest(&self, rule: Rule) -> &str {
-        self.needed.get(&rule).map_or("none", |needed| &needed.smallest.1)
+    pub fn smallest(&self, departure: Departure) -> &str {
+        self.needed.get(&departure).map_or("none", |needed| &needed.smallest.1)
     }
 
     pub fn print(&self, title: &str) {
@@ -52,8 +52,8 @@ impl Tally {
         for (what, times) in &self.compared {
             println!("  {times} {what} compared");
         }
-        for (rule, needed) in &self.needed {
-            println!("  {} times: {}; smallest: {}", needed.times, rule.heading(), needed.smallest.1);
+        for (departure, needed) in &self.needed {
+            println!("  {} times: {}; smallest: {}", needed.times, departure.heading(), needed.smallest.1);
         }
     }
 }

@@ -1,6 +1,6 @@
 //! Each entry of docs/DIFFERENCES.md at its smallest input: what the Rust does in this build, and what we do.
 use awirbesh::{lent, IdSequence, Look, Refusal, State};
-use beside::{chance::Chance, ours, rust, Entry, Looked, Pair, PushedBy, RecoveredBy, Rule, Scanned, Tally, PAGE};
+use beside::{chance::Chance, ours, rust, Departure, Entry, Looked, Pair, PushedBy, RecoveredBy, Scanned, Tally, PAGE};
 use nebari::transaction::{manager::probe::Sequence, state::probe};
 
 const CHECKED: bool = cfg!(debug_assertions);
@@ -37,7 +37,7 @@ fn a_stored_id_is_lost_behind_later_pages() {
     let mut smallest = log_of(&[(1, 1_021), (2, 8)], 4);
     assert!(found(&smallest, 2));
     assert_eq!(looked(&mut smallest, 2), Looked::Absent { position: 0 });
-    // The log of six pages that 01 has.
+    // The log of six pages of the worked cases.
     let mut six = log_of(&[(1, 3_000), (2, 8), (3, 8), (4, 8)], 8);
     assert!(found(&six, 2));
     assert_eq!(looked(&mut six, 2), Looked::Absent { position: 0 });
@@ -208,17 +208,17 @@ fn bytes_past_the_length() {
     assert_eq!(pair.rust.scan(all), Scanned::Entries(vec![(1, Vec::new()), (2, Vec::new())]));
 }
 
-/// docs/DIFFERENCES.md has an entry for each rule.
+/// docs/DIFFERENCES.md has an entry for each departure.
 #[test]
 fn each_rule_names_an_entry() {
     let text = include_str!("../../docs/DIFFERENCES.md");
-    for rule in Rule::ALL {
-        let heading = format!("### {}", rule.heading());
+    for departure in Departure::ALL {
+        let heading = format!("### {}", departure.heading());
         assert_eq!(text.lines().filter(|line| *line == heading).count(), 1, "{heading}");
     }
 }
 
-/// The filling rule is the Rust's: a shorter entry keeps bytes of the longer one before it in the batch.
+/// The filling departure is the Rust's: a shorter entry keeps bytes of the longer one before it in the batch.
 #[test]
 fn stale_bytes_are_the_same() {
     let mut pair = Pair::with_capacity(8);

@@ -1,7 +1,7 @@
 //! Every small log, every id and every range of ids around it, on both sides.
 use std::ops::Bound;
 
-use beside::{Entry, Ids, Pair, Rule, Tally};
+use beside::{Departure, Entry, Ids, Pair, Tally};
 
 /// Payloads for entries of one, two and three pages, two of each about the boundaries.
 const PAYLOADS: [[usize; 2]; 3] = [[8, 1_020], [1_021, 2_043], [2_044, 3_000]];
@@ -56,10 +56,10 @@ fn every_lookup_in_every_log_up_to_seven_pages() {
     tally.print("every log up to seven pages");
 
     // Each departure comes up, at the input that docs/DIFFERENCES.md gives as the smallest.
-    assert_eq!(tally.smallest(Rule::LaterPages), "1 (payload 1021), 2 (payload 8); next 4; id 2");
-    assert_eq!(tally.smallest(Rule::IdlePages), "1 (payload 8), idle, 2 (payload 8); next 4; id 2");
-    assert_eq!(tally.smallest(Rule::AbsentPosition), "1 (payload 8), idle; next 3; id 2");
-    assert_eq!(tally.times(Rule::FarApart), 0);
+    assert_eq!(tally.smallest(Departure::LaterPages), "1 (payload 1021), 2 (payload 8); next 4; id 2");
+    assert_eq!(tally.smallest(Departure::IdlePages), "1 (payload 8), idle, 2 (payload 8); next 4; id 2");
+    assert_eq!(tally.smallest(Departure::AbsentPosition), "1 (payload 8), idle; next 3; id 2");
+    assert_eq!(tally.times(Departure::FarApart), 0);
 }
 
 /// Both ends open, included or excluded, at every id from 0 to two past next.

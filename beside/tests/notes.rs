@@ -1,6 +1,6 @@
 //! The id sequence and the id counter, on both sides.
 use awirbesh::{IdSequence, Refusal, State};
-use beside::{chance::Chance, rust::caught, Rule, Tally};
+use beside::{chance::Chance, rust::caught, Departure, Tally};
 use nebari::transaction::{manager::probe::Sequence, state::probe};
 
 struct Both {
@@ -23,18 +23,18 @@ impl Both {
             Err(Refusal::BelowStart) => {
                 // The Rust panics and changes nothing.
                 caught(|| self.rust.note(id)).expect_err("a low id");
-                tally.name(Rule::LowNote, size, || format!("start {start}, note {id}"));
+                tally.name(Departure::LowNote, size, || format!("start {start}, note {id}"));
             }
             Err(Refusal::OutsideWindow) if id == u64::MAX => {
                 caught(|| self.rust.note(id)).expect_err("the last id");
-                tally.name(Rule::LastNote, size, || format!("start {start}, note {id}"));
+                tally.name(Departure::LastNote, size, || format!("start {start}, note {id}"));
             }
             Err(Refusal::OutsideWindow) => {
                 // The Rust takes it and grows; far above the start it would not end well, so not there.
                 if id - start < 1 << 20 {
                     self.rust.note(id);
                 }
-                tally.name(Rule::WideNote, size, || format!("start {start}, note {id}"));
+                tally.name(Departure::WideNote, size, || format!("start {start}, note {id}"));
                 return false;
             }
             Err(other) => panic!("{other}"),
@@ -61,7 +61,7 @@ fn every_short_list_of_notes() {
         }
     }
     tally.print("every short list of notes");
-    assert_eq!(tally.smallest(Rule::LowNote), "start 3, note 1");
+    assert_eq!(tally.smallest(Departure::LowNote), "start 3, note 1");
 }
 
 #[test]
@@ -90,8 +90,8 @@ fn random_notes() {
         }
     }
     tally.print("random notes");
-    for rule in [Rule::LowNote, Rule::WideNote, Rule::LastNote] {
-        assert!(tally.times(rule) > 0, "{rule:?} did not come up");
+    for departure in [Departure::LowNote, Departure::WideNote, Departure::LastNote] {
+        assert!(tally.times(departure) > 0, "{departure:?} did not come up");
     }
 }
 
@@ -127,7 +127,7 @@ fn takes() {
                 Err(Refusal::IdsUsedUp) => {
                     // The Rust hands the last id out and begins again at 0.
                     assert_eq!((id, rust.next_transaction_id()), (u64::MAX, 0));
-                    tally.name(Rule::LastTake, (0, next, 0), || format!("next {}", ours.next));
+                    tally.name(Departure::LastTake, (0, next, 0), || format!("next {}", ours.next));
                     break;
                 }
                 Err(other) => panic!("{other}"),
@@ -135,5 +135,5 @@ fn takes() {
         }
     }
     tally.print("takes");
-    assert!(tally.times(Rule::LastTake) > 0);
+    assert!(tally.times(Departure::LastTake) > 0);
 }

@@ -2,7 +2,7 @@
 //! there are and which.
 use std::ops::Bound;
 
-use beside::{chance::Chance, Entry, Ids, Pair, Rule, Tally};
+use beside::{chance::Chance, Departure, Entry, Ids, Pair, Tally};
 
 fn setting(name: &str, usual: u64) -> u64 {
     std::env::var(name).map_or(usual, |text| text.parse().expect(name))
@@ -107,8 +107,8 @@ fn random_logs() {
         tally.compared("logs");
     }
     tally.print("random logs");
-    for rule in [Rule::LaterPages, Rule::IdlePages, Rule::AbsentPosition] {
-        assert!(tally.times(rule) > 0, "{rule:?} did not come up");
+    for departure in [Departure::LaterPages, Departure::IdlePages, Departure::AbsentPosition] {
+        assert!(tally.times(departure) > 0, "{departure:?} did not come up");
     }
 }
 
@@ -135,7 +135,7 @@ fn ids_far_apart() {
         }
     }
     tally.print("ids far apart");
-    assert!(tally.times(Rule::FarApart) > 0);
+    assert!(tally.times(Departure::FarApart) > 0);
 }
 
 /// Where ids are dense, entries have one page each and next is one past the last, the Rust loses nothing.
@@ -233,5 +233,5 @@ fn a_store_without_room() {
     let entry = |id: u64, length: usize| Entry { id, data: vec![id as u8; length] };
     pair.compare_without_room(&[entry(1, 5), entry(2, 1_013), entry(3, 0)], &mut tally);
     assert_eq!((pair.state().length, pair.state().last), (1_024, 2));
-    assert_eq!(tally.times(Rule::NoRoom), 1);
+    assert_eq!(tally.times(Departure::NoRoom), 1);
 }
