@@ -5,7 +5,8 @@
 --   any-guess-right                           guesses that are not the rule's: other-guesses
 --   recover-right, recover-alike              a length with an excess, and a log that differs before its last entry: excess-recovers, recovers-alike
 --   data-one-part                             the data of an entry of one page: five-bytes
--- and examples of what is not promised, 12.1 to 12.3: flipped-is-sound, dropped-comes-again, fault-unseen
+-- and examples of what is not promised, 12.1 to 12.3: flipped-is-sound, dropped-comes-again, fault-unseen;
+-- and that the theorems' conditions are needed: stored-and-missed (a sound log), made-up-last (a last written at or above its last id)
 use Prim.Native.Nat.{ℕ, zero, suc, _≤_, _<_}
 use mathlib.Core.Path.{_≡_, refl}
 use mathlib.Core.Logic.{_⊎_, inl, inr, ⊎-elim}
@@ -28,8 +29,8 @@ use Rattle.demands.specs.Recovery.{RightRecovery}
 use Rattle.demands.specs.Lookup.{present, missing, Room, RightLookup, AnyGuess, stops, narrows}
 use Rattle.demands.specs.Scan.{Enough, Scans}
 use Rattle.log.specs.Guess.{leastFrom, leastShift, offsetOf}
-use Rattle.log.specs.Lookup.{found, roundFrom, window, allPages, compared, sayingAt, turned, walk, search, searchOf, findOf, lookupOf}
-use Rattle.log.specs.Check.{laterMarks, checkStart, checkPage, checkEnd, checkFrom, checkOf}
+use Rattle.log.specs.Lookup.{found, absent, roundFrom, window, allPages, compared, sayingAt, turned, walk, search, searchOf, findOf, lookupOf}
+use Rattle.log.specs.Check.{refused, laterMarks, checkStart, checkPage, checkEnd, checkFrom, checkOf}
 use Rattle.log.specs.Recovery.{cutLog, atLast, walkBack, recoverLog, recoverOf}
 use Rattle.pushing.specs.Push.{entryData, some, badEnd, badBatch, largeData, someLarge, wrote, writing, turn, entriesFrom, pushOf}
 use Rattle.scanning.specs.Scan.{scanOf}
@@ -228,6 +229,16 @@ dropped-comes-again = refl
 pub fault-unseen : recoverOf (take 1024 store ++ (7 ∷ drop 1025 store)) 4096 ≡ recoverOf store 4096
 unfolding pagesFor pageAt numberAt bytesOf markAt lengthAt idAt entryAt blank firstPage laterPage laterPages entryPages tooLong atLast walkBack recoverLog recoverOf
 fault-unseen = refl
+
+-- 12.3: in a log that is not sound, with 5 before 3, a stored id is missed
+pub stored-and-missed : findOf (entryPages blank 5 [] ++ entryPages blank 3 []) (stateOf 2048 5 6) 5 ≡ absent 2048
+unfolding pagesFor pageAt numberAt bytesOf markAt lengthAt idAt entryAt blank firstPage laterPage laterPages entryPages tooLong badState leastFrom leastShift offsetOf compared sayingAt turned walk search searchOf findOf
+stored-and-missed = refl
+
+-- 11.6: by a state that was made up, with a last written below the log's last id, a push leaves a log that is not sound
+pub made-up-last : checkOf (pushOf store (stateOf 4096 0 4) (1 ∷ []) (0 ∷ []) [] .store) 5120 ≡ refused 15 4
+unfolding pagesFor pageAt numberAt bytesOf markAt lengthAt idAt entryAt blank firstPage laterPage laterPages laterImage entryPages entryImage tooLong badState entryData some badEnd badBatch largeData someLarge wrote writing turn entriesFrom pushOf laterMarks checkStart checkPage checkEnd checkFrom checkOf
+made-up-last = refl
 
 -- ---- the data of the entry on that page of id 9 is a part of the log
 
