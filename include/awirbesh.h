@@ -26,20 +26,21 @@
  * written. Outside a push a refusal changes no byte. Positions, lengths and ends are bytes; a page's number is its
  * position divided by 1,024.
  *
- *    1 bad state        the store is longer than 2^31 bytes, or the length is no multiple of 1,024 or above the
- *                       store's size, or a cursor is not at a page boundary or above the length
- *    2 out of order     an entry's id is not above the last written
- *    3 too large        its payload, id and data, is 2^24 bytes or more
- *    4 no room          its pages do not fit between the length and the store's end
- *    5 bad mark         a mark that was read is neither 0 nor 1
+ *    1 bad state        the store is longer than 2^31 bytes, or the length is above its size; except in
+ *                       awirbesh_check and awirbesh_recover, also if the length is no multiple of 1,024; in
+ *                       awirbesh_step, also if the cursor is no such multiple, or above the length
+ *    2 out of order     an entry's id is at or below the last written
+ *    3 too large        an entry's id and data reach 2^24 bytes
+ *    4 no room          after the length the store has fewer bytes than the entry's pages take
+ *    5 bad mark         a mark other than 0 and 1 was read
  *    6 short entry      a start with a payload length under 8
- *    7 cut entry        a start whose pages run past the log's last whole page; in awirbesh_check also an excess
- *    8 no entries       page 0 has mark 0
+ *    7 cut entry        an entry's pages go beyond the log's whole pages; in awirbesh_check also an excess
+ *    8 no entries       page 0 was read and has mark 0 (awirbesh_check and awirbesh_recover only)
  *    9 ids used up      recovery found id 2^64-1, or an id was asked for when next is 2^64-1
  *   10 buffer small     the data is longer than `out`
  *   11 below start      an id noted below the sequence's start
  *   12 outside window   an id noted 4,096 or more above it, or 2^64-1
- *   13 bad batch        the counts of ids and ends differ, or ends fall, or an end is beyond the data
+ *   13 bad batch        not as many ids as ends, an end below the one before, or an end beyond the data
  *   14 overlap          awirbesh_check only: a start inside an entry
  *   15 not ascending    awirbesh_check only: an id that is not above the one before
  *   16 value too large  some data of a batch is longer than 16,777,208 bytes
@@ -96,7 +97,7 @@ typedef struct {
 } awirbesh_range;
 
 /* An id sequence, beside the 64 words that the caller lends: the ids from `start` up to, but not including,
- * `after`, which is one past the highest noted, remain. A caller may make one up. */
+ * `after`, which is one past the highest noted (start, if none is), remain. A caller may make one up. */
 enum { AWIRBESH_SEQUENCE_WORDS = 64 };
 typedef struct {
     uint64_t start;
@@ -131,7 +132,7 @@ typedef struct {
     uint64_t number; /* 0, 1, 5, 6, 7, 8 or 9 */
     uint64_t value;
     uint64_t excess;      /* bytes of a part page that were cut off the length: under 1,024 */
-    awirbesh_state state; /* the state to go on with */
+    awirbesh_state state; /* the state to go on with; all 0 after a refusal */
 } awirbesh_recovered;
 
 /* The state of the log in the first `length` bytes of the store, by its last entry alone. Changes no byte: the
@@ -143,14 +144,14 @@ awirbesh_recovered awirbesh_recover(const uint8_t *store, size_t store_len, uint
 typedef struct {
     uint64_t number; /* 0, 1, 5, 6, 7 or, of a lookup alone, 10 */
     uint64_t value;
-    uint64_t found;    /* 1 if the id is stored, 0 if it is absent */
+    uint64_t found;    /* 1 if found, 0 if absent */
     uint64_t position; /* of its first page; absent, where it would be: see below */
     uint64_t length;   /* of its data; 0 if absent */
 } awirbesh_look;
 
-/* Looks an id up and copies nothing, so that it never answers 10. On a sound log, for an id from 1 to below next,
- * it is found exactly if stored, and absent it stands at the first entry with a greater id, or at the length.
- * Id 0 is absent at 0, an id from next on at the length. */
+/* Looks an id up and copies nothing, so that it never answers 10. On a sound log a stored id from 1 to below next is
+ * found, and no other; an absent one stands at the first entry with a greater id, or at the length. Id 0 is absent
+ * at 0, an id from next on at the length, stored or not. */
 awirbesh_look awirbesh_find(const uint8_t *store, size_t store_len, awirbesh_state state, uint64_t id);
 
 /* The same, and copies the data to the front of `out`; the rest of `out` keeps its bytes. */
@@ -206,11 +207,11 @@ typedef struct {
     awirbesh_sequence sequence; /* after the note; after a refusal as given, with the words unchanged */
 } awirbesh_noted;
 
-/* Notes an id in the 64 words: lend the same ones at each note of a sequence. No id from `after` on counts as
- * noted, whatever the words hold; of those from `start` to below `after` the words say which are. */
+/* Notes an id in the 64 words: lend the same ones at each note of a sequence. Bit k % 64 of word k / 64, bit 0 being
+ * the lowest, says whether start + k is noted, below `after`; from `after` on no id is, whatever the words hold. */
 awirbesh_noted awirbesh_sequence_note(uint64_t *words, awirbesh_sequence sequence, uint64_t id);
 
-/* 1 if every id from the first start to the highest noted has been noted, so also before any note; else 0. */
+/* 1 if none remain: no id up to the highest noted is missing, so also before any note; else 0. */
 uint64_t awirbesh_sequence_complete(awirbesh_sequence sequence);
 
 #ifdef __cplusplus

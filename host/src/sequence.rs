@@ -14,14 +14,14 @@ impl IdSequence {
         IdSequence { words: [u64::MAX; 64], sequence: unsafe { ffi::awirbesh_sequence_new(start) } }
     }
 
-    /// Notes an id as settled.
+    /// Notes an id.
     pub fn note(&mut self, id: u64) -> Result<(), Refusal> {
         let noted = unsafe { ffi::awirbesh_sequence_note(self.words.as_mut_ptr(), self.sequence, id) };
         self.sequence = noted.sequence;
         Refusal::test(noted.number, 0)
     }
 
-    /// Whether every id from the first start to the highest noted has been noted.
+    /// Whether no id from the first start to the highest noted is missing, as before any note.
     pub fn complete(&self) -> bool {
         unsafe { ffi::awirbesh_sequence_complete(self.sequence) != 0 }
     }

@@ -5,6 +5,7 @@ use Rattle.awirbesh.specs.State.{stateNumbers}
 use Rattle.awirbesh.specs.declared.checking.CheckedNumbers.{CheckedNumbers}
 use Rattle.awirbesh.specs.declared.checking.RecoveredNumbers.{RecoveredNumbers}
 
+-- sound is number 0
 abbrev pub checkedNumbers : Checking → CheckedNumbers
 checkedNumbers sound = record { number = 0; value = 0 }
 checkedNumbers (refused number value) = record { number = number; value = value }

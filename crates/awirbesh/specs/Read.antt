@@ -27,6 +27,7 @@ lookNumbers (found position len) = record { number = 0; value = 0; found = 1; po
 lookNumbers (absent position) = record { number = 0; value = 0; found = 0; position = position; length = 0 }
 lookNumbers (refused number value) = record { number = number; value = value; found = 0; position = 0; length = 0 }
 
+-- 9.2: the cursor for the first step
 abbrev pub startedNumbers : Beginning → StartedNumbers
 startedNumbers (at cursor) = record { number = 0; value = 0; cursor = cursor }
 startedNumbers (unstarted number value) = record { number = number; value = value; cursor = 0 }

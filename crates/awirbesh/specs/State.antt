@@ -1,5 +1,5 @@
 -- The numbers that stand for a state, and for the answer of Rules 5, "Take".
--- Here and in each module of these specs: number is the refusal's, 0 for none; value is what it names; after a refusal every other number is 0, or as given where a comment says so.
+-- Here and in each module of these specs: number is the refusal's, 0 for none; value is what it names; after a refusal every other number is 0, or what a comment there says.
 use Rattle.log.specs.State.{Taking, taken, refused, stateOf}
 use Rattle.log.specs.declared.state.State.{State}
 use Rattle.awirbesh.specs.declared.state.StateNumbers.{StateNumbers}
@@ -12,7 +12,7 @@ stateFrom s = stateOf (s .length) (s .last) (s .next)
 abbrev pub stateNumbers : State → StateNumbers
 stateNumbers st = record { length = st .length; last = st .last; next = st .next }
 
--- the id and the state after it; 3.2 "a refused call leaves the state .. as they were"
+-- the id and the state after it; 3.2 "a refusal leaves the state"
 abbrev pub takenNumbers : StateNumbers → Taking → TakenNumbers
 takenNumbers given (taken id st) = record { number = 0; id = id; state = stateNumbers st }
 takenNumbers given (refused number value) = record { number = number; id = 0; state = given }

@@ -1,4 +1,4 @@
--- Rules 11, "What is promised", 11.7 and 11.8: a store with its state, the calls, what they answer and what they leave, and the settled ids.
+-- Rules 11, "What is promised", 11.8 and 11.9: a store with its state, the calls, what they answer and what they leave, and the settled ids.
 use Prim.Native.Nat.{ℕ, _^_, _≤_, _<_}
 use mathlib.Core.Path.{_≡_}
 use mathlib.Core.List.{List, [], _∷_, List·Memᴰ}
@@ -36,7 +36,7 @@ logOf w = take (w .state .length) (w .store)
 abbrev pub Words : List ℕ → Type 0
 Words ids = (k : ℕ) → getD ids k 0 < 2 ^ 64
 
--- 11.8 "pushes, takes, finds, lookups, scans, steps and recoveries at the log's length": any batch, id, range, cursor and output
+-- any push, take, find, lookup, scan, step or recovery at the log's length: any batch, id, range, cursor and output
 pub data Call : Type 0 where
   push : (ids ends bytes : List ℕ) → Words ids → Call
   take-id : Call
@@ -65,11 +65,12 @@ answer w (scan range) = scan-began (scanOf (w .store) (w .state) range)
 answer w (step-on range cursor out) = stepped (stepOf (w .store) (w .state) range cursor out)
 answer w recover = restored (recoverOf (w .store) (w .state .length))
 
--- the state after an id was asked for: 3.2 "a refused call leaves the state .. as they were"
+-- the state after an id was asked for: 3.2 "a refusal leaves the state"
 abbrev pub stateAfterTake : State → Taking → State
 stateAfterTake st (taken id state) = state
 stateAfterTake st (untaken number value) = st
 
+-- and after a recovery
 abbrev pub stateAfterRecovery : State → Recovering → State
 stateAfterRecovery st (recovered state excess) = state
 stateAfterRecovery st (unrecovered number value) = st
@@ -84,10 +85,11 @@ after w (scan-began r) = w
 after w (stepped r) = w
 after w (restored r) = world (w .store) (stateAfterRecovery (w .state) r)
 
+-- one call, with the state that the call before left
 unfoldable pub step : World → Call → World
 step w c = after w (answer w c)
 
--- 11.8 "through any .. refused ones among them": the world after any calls
+-- a history: the world after any calls, refused ones among them
 unfoldable pub run : World → List Call → World
 run w [] = w
 run w (c ∷ cs) = run (step w c) cs
@@ -104,7 +106,7 @@ said w (c ∷ cs) = record { call = c; reply = answer w c } ∷ said (step w c) 
 
 -- ---- where a history begins
 
--- 11.8 "From a sound log and its recovered state on": a store of which n bytes are a sound log and an excess, and the state that their recovery gives
+-- a sound log and the state that its recovery gives: a store of which n bytes are a sound log and an excess
 pub record Begun (w : World) : Type 0 where
   pub size : ℕ
   pub sound : Sound (cutLog (w .store) size)
@@ -113,7 +115,7 @@ pub record Begun (w : World) : Type 0 where
 
 -- ---- settled ids
 
--- 11.8 "at least 1, at most the last stored id, and below next"
+-- 11.9 "1 or more, not above the last stored id, and below next"
 pub record Settled (w : World) (id : ℕ) : Type 0 where
   pub some : 1 ≤ id
   pub below : id < w .state .next
@@ -148,7 +150,7 @@ Gives recover r id s d = Unit {0}
 abbrev pub Answers : World → ℕ → Standing → List ℕ → Type 0
 Answers w id s d = (c : Call) → Gives c (answer w c) id s d
 
--- 11.8 "found exactly if the id is stored": found with the entry's position, data length and data; absent where no entry has the id
+-- 11.9 "It is found exactly if it is stored": found with the entry's position, data length and data; absent where no entry has the id
 abbrev pub ExactlyStored : List ℕ → ℕ → Standing → List ℕ → Type 0
 ExactlyStored log id (present position len) d = (entry : Stored log id position len) × (d ≡ dataAt log (entry .page) len) × (length d ≡ len)
 ExactlyStored log id (missing position) d = ((p : ℕ) → Start log p → idAt log p ≡ id → ⊥) × (d ≡ [])
@@ -160,7 +162,7 @@ pub record Keeps (w : World) (id : ℕ) (s : Standing) (d : List ℕ) : Type 0 w
   pub answers : Answers w id s d
   pub exact : ExactlyStored (logOf w) id s d
 
--- 11.8 "keeps its first answer": it is chosen before any later call is; every later call keeps it, and every later lookup gave it
+-- 11.9 "gives what the first one gave": that is chosen before any later call is; every later call keeps it, and every later lookup gave it
 pub record KeepsFirst (w : World) (id : ℕ) : Type 0 where
   pub stands : Standing
   pub data-is : List ℕ
@@ -169,7 +171,7 @@ pub record KeepsFirst (w : World) (id : ℕ) : Type 0 where
 
 -- ---- reading back
 
--- 11.7 "reads back, at one position, then and after any later calls, while its id is below next"
+-- 11.8 "found by every later lookup with enough output, with its data and at one position, while its id is below next"
 pub record ReadsBack (w : World) (id : ℕ) (d : List ℕ) : Type 0 where
   pub position : ℕ
   pub reads : (later : List Call) → id < run w later .state .next → Answers (run w later) id (present position (length d)) d

@@ -1,4 +1,4 @@
--- Rules 11, "What is promised", 11.4: the right answer of a lookup on a sound log.
+-- Rules 11, "What is promised", 11.5: the right answer of a lookup on a sound log.
 use Prim.Native.Nat.{ℕ, _*_, _≤_, _<_}
 use mathlib.Core.Path.{_≡_}
 use mathlib.Core.List.{List}
@@ -22,28 +22,29 @@ standing (found position len) = present position len
 standing (absent position) = missing position
 standing (refused number value) = unsaid
 
--- 11.4 "finds it exactly if it is stored .. else it is absent at the first entry with a greater id, or at length"
+-- 11.5 "finds it if it is stored .. and only then; else it is absent at the first entry with a greater id, or at length"
 abbrev pub RightStanding : List ℕ → ℕ → Standing → Type 0
 RightStanding log id (present position len) = Stored log id position len
 RightStanding log id (missing position) = Missing log id position
 RightStanding log id unsaid = ⊥
 
--- 11.4 "with enough output": it holds the data of the entry with that id
+-- 11.5 "with enough output": it holds the data of the entry with that id
 abbrev pub Room : List ℕ → ℕ → List ℕ → Type 0
 Room log id out = (position len : ℕ) → Stored log id position len → len ≤ length out
 
--- a right answer, and after it the output: 8.8 "the data is copied to its front and the rest of it stays"
+-- a right answer, and after it the output: 8.8 "the data is put to its front and the rest of it stays"
 abbrev pub RightOutput : List ℕ → ℕ → List ℕ → Standing → List ℕ → Type 0
 RightOutput log id out (present position len) after = (entry : Stored log id position len) × (after ≡ copied log (entry .page) len out)
 RightOutput log id out (missing position) after = Missing log id position × (after ≡ out)
 RightOutput log id out unsaid after = ⊥
 
+-- of a lookup's answer and output
 abbrev pub RightLookup : List ℕ → ℕ → List ℕ → WithOutput Looking → Type 0
 RightLookup log id out r = RightOutput log id out (standing (r .answer)) (r .out)
 
 -- ---- on any log
 
--- the entry that is found is whole
+-- 8.5 "what is found is a whole entry"
 pub record WholeStored (log : List ℕ) (id position len : ℕ) : Type 0 where
   pub stored : Stored log id position len
   pub long : idSize ≤ lengthAt log (stored .page)
@@ -63,7 +64,7 @@ Placed log id (refused number value) = Unit {0}
 
 -- ---- any guess
 
--- 11.4 "Whatever pages the rounds guess": the rounds from a window on, where each may guess any page of its window
+-- 11.5 "whatever page of its window each round guesses": the rounds from a window on
 pub data AnyGuess (log : List ℕ) (id : ℕ) : Window → Looking → Type 0 where
   emptied : (w : Window) → w .hi ≤ w .lo → AnyGuess log id w (absent (w .hi * pageSize))
   stops : (w : Window) (g : ℕ) (r : Looking) → w .lo ≤ g → g < w .hi → roundFrom log id w g ≡ stop r → AnyGuess log id w r

@@ -1,4 +1,4 @@
--- Rules 11, "What is promised", 11.6: what a push adds to the log, and what it leaves of a sound one.
+-- Rules 11, "What is promised", 11.3 and 11.7: what a push adds to the log, and what it leaves of a sound one.
 use Prim.Native.Nat.{ℕ, zero, suc, _+_, _≤_, _<_}
 use mathlib.Core.Path.{_≡_}
 use mathlib.Core.Bool.{_||_}
@@ -31,7 +31,7 @@ logAfter r = take (r .answer .state .length) (r .store)
 
 -- on any input: 4.6 "No byte but those of the pages added changes, and next never moves"
 pub record Grown (store : List ℕ) (st : State) (ids ends bytes : List ℕ) (r : Done) : Type 0 where
-  -- 11.6 "it adds the pages of exactly those entries": the log after is the log before and then the pages of the entries counted
+  -- 11.3 "the pages of exactly the entries that it counts": the log after is the log before and then the pages of the entries counted
   pub log : logAfter r ≡ take (st .length) store ++ batchPages ids ends bytes (r .answer .written)
   -- no byte after it changes
   pub after : drop (r .answer .state .length) (r .store) ≡ drop (r .answer .state .length) store
@@ -43,7 +43,7 @@ abbrev pub lastOf : State → List ℕ → ℕ → ℕ
 lastOf st ids zero = st .last
 lastOf st ids (suc n) = getD ids n 0
 
--- after n entries were written; 4.4 "So 3 and 4 use up the id" of the entry that they refuse
+-- after n entries were written; 4.3 "So an id that 3 or 4 refuses is used up"
 abbrev pub lastFor : Why → State → List ℕ → ℕ → ℕ
 lastFor none st ids n = lastOf st ids n
 lastFor (refused number value) st ids n = pick (eqb number 3 || eqb number 4) (getD ids n 0) (lastOf st ids n)
@@ -60,12 +60,12 @@ pub record Holds (log : List ℕ) (id : ℕ) (d : List ℕ) : Type 0 where
   pub size : lengthAt log page ≡ idSize + length d
   pub same : dataAt log page (length d) ≡ d
 
--- 11.6 "last written being at or above its last id": and the log in the store is sound
+-- 11.7 "last written being at or above the last stored id": and the log in the store is sound
 pub record Ready (store : List ℕ) (st : State) : Type 0 where
   pub good : SoundStore store (st .length)
   pub under : (p : ℕ) → Start (take (st .length) store) p → idAt (take (st .length) store) p ≤ st .last
 
--- 11.6 "leaves a sound log that holds every entry counted as written"
+-- 11.7 "leaves a sound log that holds every entry it counts"
 pub record RightPush (ids ends bytes : List ℕ) (r : Done) : Type 0 where
   pub ready : Ready (r .store) (r .answer .state)
   pub held : (k : ℕ) → k < r .answer .written → Holds (logAfter r) (getD ids k 0) (entryData ends bytes k)

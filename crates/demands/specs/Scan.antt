@@ -1,4 +1,4 @@
--- Rules 11, "What is promised", 11.5: what the steps of a scan hand over on a sound log.
+-- Rules 11, "What is promised", 11.6: what the steps of a scan hand over on a sound log.
 use Prim.Native.Nat.{ℕ, _≤_, _<_}
 use mathlib.Core.Path.{_≡_}
 use mathlib.Core.Bool.{true}
@@ -26,7 +26,7 @@ pub record Item : Type 0 where
 unfoldable pub itemAt : List ℕ → ℕ → Item
 itemAt log p = record { id = idAt log p; bytes = dataAt log p (dataLengthAt log p) }
 
--- 11.5 "The steps of a scan, with enough output and the log unchanged, hand over": with any output of m bytes or more at each step, exactly these entries in this order from a cursor on, then the end with the cursor at length
+-- 11.6 "The steps of a scan, with enough output and the log unchanged, hand over": with any output of m bytes or more at each step, exactly these entries in this order from a cursor on, then the end with the cursor at length
 pub data Hands (store : List ℕ) (st : State) (range : Range) (m : ℕ) : ℕ → List Item → Type 0 where
   no-more : (cursor : ℕ)
       → ((out : List ℕ) → stepOf store st range cursor out ≡ withOutput (end (st .length)) out)
@@ -36,11 +36,11 @@ pub data Hands (store : List ℕ) (st : State) (range : Range) (m : ℕ) : ℕ �
       → Hands store st range m after rest
       → Hands store st range m cursor (record { id = id; bytes = bytes } ∷ rest)
 
--- 11.5 "with enough output": m bytes hold the data of each entry of the range
+-- 11.6 "with enough output": m bytes hold the data of each entry of the range
 abbrev pub Enough : List ℕ → Range → ℕ → Type 0
 Enough log range m = (p : ℕ) → Start log p → holdsOf range (idAt log p) ≡ true → dataLengthAt log p ≤ m
 
--- 11.5 "ids rising": each above all before it, so that none comes twice
+-- 11.6 "ids rising": each above all before it, so that none comes twice
 unfoldable pub Rising : List Item → Type 0
 Rising [] = Unit {0}
 Rising (x ∷ l) = ((y : Item) → List·Memᴰ y l → x .id < y .id) × Rising l
@@ -52,13 +52,13 @@ pub record OfRange (log : List ℕ) (range : Range) (x : Item) : Type 0 where
   pub inside : holdsOf range (idAt log page) ≡ true
   pub is : x ≡ itemAt log page
 
--- 11.5 "every stored entry of the range once, ids rising"
+-- 11.6 "every stored entry of the range once, ids rising"
 pub record Listing (log : List ℕ) (range : Range) (l : List Item) : Type 0 where
   pub every : (p : ℕ) → Start log p → holdsOf range (idAt log p) ≡ true → List·Memᴰ (itemAt log p) l
   pub only : (x : Item) → List·Memᴰ x l → OfRange log range x
   pub rising : Rising l
 
--- 11.5 "the lower end is 1 or more and not below next"
+-- 11.6 "the lower end is 1 or more and not below next"
 abbrev pub Beyond : End → ℕ → Type 0
 Beyond Open next = ⊥
 Beyond (Included id) next = (1 ≤ id) × (next ≤ id)

@@ -46,7 +46,7 @@ pub record Stored (log : List ℕ) (id position len : ℕ) : Type 0 where
   pub at-page : position ≡ page * pageSize
   pub size : len ≡ dataLengthAt log page
 
--- 11.4 "absent at the first entry with a greater id, or at length": and no entry has that id
+-- 11.5 "absent at the first entry with a greater id, or at length": and no entry has that id
 pub record Missing (log : List ℕ) (id position : ℕ) : Type 0 where
   pub page : ℕ
   pub at-page : position ≡ page * pageSize

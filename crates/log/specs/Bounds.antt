@@ -11,11 +11,11 @@ use Rattle.page.specs.Size.{pageSize}
 unfoldable pub tooLong : List ℕ → ℕ → Bool
 tooLong store n = ltb (2 ^ 31) (length store) || ltb (length store) n
 
--- 3.1 "but for recovery and sound check also if length is no multiple of 1,024"
+-- 3.1 "except in recovery and the sound check, also if length is no multiple of 1,024"
 unfoldable pub badState : List ℕ → ℕ → Bool
 badState store n = tooLong store n || not (eqb (n % pageSize) 0)
 
--- 3.1 "for a step also if the cursor is no such multiple, or above length"
+-- 3.1 "in a step, also if the cursor is no such multiple, or above length"
 unfoldable pub badCursor : ℕ → ℕ → Bool
 badCursor n cursor = ltb n cursor || not (eqb (cursor % pageSize) 0)
 
@@ -24,7 +24,7 @@ pub record Fits (store : List ℕ) (n : ℕ) : Type 0 where
   pub small : length store ≤ 2 ^ 31
   pub inside : n ≤ length store
 
--- and where no other call does
+-- and where no other call refuses the state
 pub record Good (store : List ℕ) (n : ℕ) : Type 0 where
   pub fits : Fits store n
   pub whole : n % pageSize ≡ 0

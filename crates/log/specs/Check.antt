@@ -31,7 +31,7 @@ pub record Checkpoint : Type 0 where
 abbrev pub checkpoint : ℕ → ℕ → Checkpoint
 checkpoint page last = record { page = page; last = last }
 
--- 7.4 "each later page of the entry: 14 for mark 1, 5 for a bad one": k pages from page p on, of the entry with that id
+-- 7.4 "the entry's other pages in turn: one with mark 1 is 14, one with a bad mark 5": k pages from page p on, of the entry with that id
 unfoldable pub laterMarks : List ℕ → ℕ → ℕ → ℕ → Round Checking Checkpoint
 laterMarks log id zero p = again (checkpoint p id)
 laterMarks log id (suc k) p = byMark (markAt log p) (stop (refused 14 p)) (laterMarks log id k (p + 1)) (stop (refused 5 p))
@@ -50,7 +50,7 @@ checkPage log p last =
     (pick (eqb p 0) (stop (refused 8 0)) (again (checkpoint (p + 1) last)))
     (stop (refused 5 p))
 
--- 7.5 "an excess is 7, naming the page that is not whole. Else the answer is sound"
+-- 7.5 "7 if there is an excess, naming the page that is not whole; otherwise sound"
 unfoldable pub checkEnd : List ℕ → Checking
 checkEnd log = pick (eqb (length log % pageSize) 0) sound (refused 7 (pageCount log))
 
@@ -59,7 +59,7 @@ unfoldable pub checkFrom : List ℕ → ℕ → Checkpoint → Checking
 checkFrom log zero at = checkEnd log
 checkFrom log (suc k) at = pick (ltb (at .page) (pageCount log)) (follow (checkFrom log k) (checkPage log (at .page) (at .last))) (checkEnd log)
 
--- every page; 7.3 "0 if there is none" before
+-- every page; 7.3 "which counts as 0 for the first entry"
 abbrev pub checkLog : List ℕ → Checking
 checkLog log = checkFrom log (pageCount log) (checkpoint 0 0)
 

@@ -61,14 +61,14 @@ pub record Window : Type 0 where
 abbrev pub window : ℕ → ℕ → ℕ → ℕ → Window
 window lo hi a b = record { lo = lo; hi = hi; a = a; b = b }
 
--- 8.6 "If its id is smaller: a becomes it, and lo the larger of g + 1 and the page after the entry. If greater: b becomes it, and hi becomes s": page s was met on the way back from the guess g, and `rest` is the way back from there
+-- 8.6 "If its id is smaller: a becomes it, and lo becomes the page after the entry, or g + 1 if that is more. If greater: b becomes it, and hi becomes s": page s was met on the way back from the guess g, and `rest` is the way back from there
 unfoldable pub turned : Window → ℕ → ℕ → Round Looking Window → Saying → Round Looking Window
 turned w g s rest (ends r) = stop r
 turned w g s rest (below stored after) = again (window (max (g + 1) after) (w .hi) stored (w .b))
 turned w g s rest (above stored) = again (window (w .lo) s (w .a) stored)
 turned w g s rest back = rest
 
--- 8.4 "walks back, never below lo, until it meets a start .. If it meets none, lo becomes g + 1": from page lo + d
+-- 8.4 "walks back, to lo at the lowest, until it meets a start .. If it meets none, lo becomes g + 1": from page lo + d
 unfoldable pub walk : List ℕ → ℕ → Window → ℕ → ℕ → Round Looking Window
 walk log id w g zero = turned w g (w .lo) (again (window (g + 1) (w .hi) (w .a) (w .b))) (sayingAt log id (w .lo))
 walk log id w g (suc d) = turned w g (w .lo + suc d) (walk log id w g d) (sayingAt log id (w .lo + suc d))
@@ -83,7 +83,7 @@ roundFrom log id w g = walk log id w g (g - w .lo)
 abbrev pub guessIn : ℕ → Window → ℕ
 guessIn id w = w .lo + offsetOf (id - w .a) (w .b - w .a) (w .hi - w .lo)
 
--- 8.3 "While lo is below hi, a round"; 8.7 "When the window is empty: absent at hi * 1,024". Each round takes a page at least from the window, so that there are no more rounds than pages
+-- 8.3 "While lo is below hi, a round"; 8.7 "Once lo is not below hi: absent at hi * 1,024". Each round takes a page at least from the window, so that there are no more rounds than pages
 unfoldable pub search : List ℕ → ℕ → ℕ → Window → Looking
 search log id zero w = absent (w .hi * pageSize)
 search log id (suc k) w =
@@ -91,11 +91,11 @@ search log id (suc k) w =
     (follow (search log id k) (roundFrom log id w (guessIn id w)))
     (absent (w .hi * pageSize))
 
--- 8.2 "At first they are all pages, 0 and next"
+-- 8.2 "At first the window is all pages, a is 0 and b is next"
 abbrev pub allPages : List ℕ → ℕ → Window
 allPages log next = window 0 (pageCount log) 0 next
 
--- 8.1 "Id 0 is absent at 0. An id that is not below next is absent at length"; 8.2 "Else the search"
+-- 8.1 "Id 0 is absent at 0. From next on every id is absent at length"; 8.2 "Else the search"
 unfoldable pub searchOf : List ℕ → ℕ → ℕ → Looking
 searchOf log next id =
     pick (eqb id 0) (absent 0)
@@ -108,10 +108,12 @@ findOf store st id = pick (badState store (st .length)) (refused 1 0) (searchOf 
 
 -- ---- 8.8 "`lookup` then hands over what is found"
 
+-- found with the data handed over; else the output stays
 unfoldable pub handFound : List ℕ → List ℕ → Looking → WithOutput Looking
 handFound log out (found position len) = handOver refused (found position len) log (position / pageSize) len out
 handFound log out (absent position) = withOutput (absent position) out
 handFound log out (refused number value) = withOutput (refused number value) out
 
+-- a lookup's answer and output
 unfoldable pub lookupOf : List ℕ → State → ℕ → List ℕ → WithOutput Looking
 lookupOf store st id out = handFound (take (st .length) store) out (findOf store st id)

@@ -30,7 +30,7 @@ atLast n excess s short = refused 6 s
 atLast n excess s (cut id) = refused 7 s
 atLast n excess s (whole id len after) = pick (eqb id topId) (refused 9 0) (recovered (recoveredAt n id) excess)
 
--- 6.4 "walks back .. to a start: 5 at a bad mark, 8 if it comes to page 0 and that has mark 0": from page p
+-- 6.4 "until it meets a start: 5 at a bad mark, 8 if it comes to page 0 and that has mark 0": from page p
 unfoldable pub walkBack : List ℕ → ℕ → ℕ → Recovering
 walkBack log excess zero =
     byMark (markAt log 0)
@@ -51,10 +51,10 @@ excessOf n = n % pageSize
 abbrev pub cutLog : List ℕ → ℕ → List ℕ
 cutLog store n = take (n - excessOf n) store
 
--- 6.3 "If no page is left: the fresh state"; 6.4 "Else it walks back from the last page"
+-- 6.3 "If no page is left: the fresh state"; 6.4 "Else it goes down from the last page"
 unfoldable pub recoverLog : List ℕ → ℕ → Recovering
 recoverLog log excess = pick (eqb (length log) 0) (recovered fresh excess) (walkBack log excess (pageCount log - 1))
 
--- 6.1 "1 only if the store is longer than 2^31 bytes or length is above its size"
+-- 6.1 "1 if it is above the store's size, or the store is too long"; 6.2 "the excess, are cut off, and their count is reported"
 unfoldable pub recoverOf : List ℕ → ℕ → Recovering
 recoverOf store n = pick (tooLong store n) (refused 1 0) (recoverLog (cutLog store n) (excessOf n))

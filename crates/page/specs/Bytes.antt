@@ -1,4 +1,4 @@
--- Rules 1, "Pages, the store and the state": a number in several bytes, which "has its highest byte first".
+-- Rules 1, "Pages, the store and the state": 1.1 "A number in several bytes has its highest byte first".
 use Prim.Native.Nat.{ℕ, zero, suc, _+_, _*_, _/_, _%_}
 use mathlib.Core.List.{List, [], _∷_, _++_}
 use lib.ListN.{getD}

@@ -21,7 +21,7 @@ dataOf part n = tab (λ i. getD part (placeOf i) 0) n
 unfoldable pub dataAt : List ℕ → ℕ → ℕ → List ℕ
 dataAt log s n = dataOf (drop (s * pageSize) log) n
 
--- 8.8 "copied to its front and the rest of it stays": the output after n data bytes of the entry that starts at page s
+-- 8.8 "put to its front and the rest of it stays": the output after n data bytes of the entry that starts at page s
 abbrev pub copied : List ℕ → ℕ → ℕ → List ℕ → List ℕ
 copied log s n out = dataAt log s n ++ drop n out
 

@@ -16,5 +16,6 @@ markAt log p = getD (pageAt log p) 0 0
 abbrev pub byMark : {A : Type 0} → ℕ → A → A → A → A
 byMark mark start later bad = pick (eqb mark 1) start (pick (eqb mark 0) later bad)
 
+-- the code's mark for the byte
 abbrev pub markOf : ℕ → Mark
 markOf mark = byMark mark Start Later Bad

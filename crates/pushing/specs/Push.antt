@@ -43,12 +43,12 @@ paperPushed r = pushing (paperReason (r .reason)) (r .written) (r .state)
 
 -- ---- the batch
 
--- 4.1 "the end before its own, 0 for the first"
+-- 4.1 "the end before its own, the first at 0"
 abbrev pub before : List ℕ → ℕ → ℕ
 before ends zero = 0
 before ends (suc j) = getD ends j 0
 
--- 4.1 "The data of an entry lies from the end before its own .. to its own end"
+-- 4.1 "The data of an entry begins at the end before its own .. and stops below its own end"
 unfoldable pub entryData : List ℕ → List ℕ → ℕ → List ℕ
 entryData ends bytes j = take (getD ends j 0 - before ends j) (drop (before ends j) bytes)
 
@@ -57,11 +57,11 @@ unfoldable pub some : (ℕ → Bool) → ℕ → Bool
 some test zero = false
 some test (suc n) = some test n || test n
 
--- 3.1 "an end is below the one before, or an end is beyond the data": end j
+-- 3.1 "an end is below the one before, or an end is beyond the buffer": end j
 unfoldable pub badEnd : List ℕ → List ℕ → ℕ → Bool
 badEnd ends bytes j = ltb (getD ends j 0) (before ends j) || ltb (length bytes) (getD ends j 0)
 
--- 13: 3.1 "the counts of ids and ends differ, an end is below the one before, or an end is beyond the data"
+-- 13: 3.1 "there are not as many ids as ends, an end is below the one before, or an end is beyond the buffer"
 unfoldable pub badBatch : List ℕ → List ℕ → List ℕ → Bool
 badBatch ids ends bytes = not (eqb (length ids) (length ends)) || some (badEnd ends bytes) (length ends)
 
@@ -92,7 +92,7 @@ logAt p = take (p .state .length) (p .store)
 abbrev pub begin : List ℕ → State → Point
 begin store st = point st blank store
 
--- 4.3 "last written becomes its id"
+-- 4.3 "set last written to its id"
 abbrev pub used : ℕ → Point → Point
 used id p = point (movedTo (p .state) (p .state .length) id) (p .image) (p .store)
 
@@ -100,7 +100,7 @@ used id p = point (movedTo (p .state) (p .state .length) id) (p .image) (p .stor
 abbrev pub bytesFor : List ℕ → ℕ
 bytesFor d = pagesForData (length d) * pageSize
 
--- 4.3 "its pages are written from length on, and length grows by them"
+-- 4.3 "write its pages from length on and add them to length"
 unfoldable pub wrote : ℕ → List ℕ → Point → Point
 wrote id d p =
     point
@@ -116,18 +116,18 @@ pub record Done : Type 0 where
 abbrev pub done : Why → ℕ → Point → Done
 done why n p = record { answer = pushing why n (p .state); store = p .store }
 
--- 4.4 "The first refusal ends the push: what was written before it stays", j entries
+-- 4.4 "The first refusal ends the push. What was written before it stays", j entries
 abbrev pub refuse : ℕ → ℕ → Point → Round Done Point
 refuse number j p = stop (done (refused number 0) j p)
 
--- 3: 3.1 "its payload is 2^24 bytes or more"; 4: 3.1 "its pages do not fit between length and the store's end"; else they are written
+-- 3: 3.1 "an entry's id and data reach 2^24 bytes"; 4: 3.1 "after length the store has fewer bytes than the entry's pages take"; else they are written
 unfoldable pub writing : ℕ → ℕ → List ℕ → Point → Round Done Point
 writing j id d p =
     pick (leb payloadEnd (idSize + length d)) (refuse 3 j p)
     (pick (ltb (length (p .store) - p .state .length) (bytesFor d)) (refuse 4 j p)
     (again (wrote id d p)))
 
--- 4.3 "each entry in turn: 2; last written becomes its id; 3; 4; its pages are written": entry j
+-- 4.3 "test 2; set last written to its id; test 3, then 4; write its pages": entry j
 unfoldable pub turn : ℕ → ℕ → List ℕ → Point → Round Done Point
 turn j id d p = pick (leb id (p .state .last)) (refuse 2 j p) (writing j id d (used id p))
 
@@ -136,7 +136,7 @@ unfoldable pub entriesFrom : List ℕ → List ℕ → List ℕ → ℕ → ℕ 
 entriesFrom ids ends bytes zero j p = done none j p
 entriesFrom ids ends bytes (suc n) j p = follow (entriesFrom ids ends bytes n (suc j)) (turn j (getD ids j 0) (entryData ends bytes j) p)
 
--- 4.2 "For the whole batch: 1, then 13, then 16. Each of them changes nothing"; 4.3 "Then each entry in turn"
+-- 4.2 "For the whole batch: 1, then 13, then 16. Each of them changes nothing"; 4.3 "Then entry after entry"
 unfoldable pub pushOf : List ℕ → State → List ℕ → List ℕ → List ℕ → Done
 pushOf store st ids ends bytes =
     pick (badState store (st .length)) (done (refused 1 0) 0 (begin store st))

@@ -141,7 +141,7 @@ fn write_entries(
     }
 }
 
-// Pushes a batch: ids, ends in one data buffer, and that buffer.
+// Pushes a batch: its ids, its ends, and the buffer that the ends divide.
 pub fn push(store: &mut [u8], state: State, ids: &[u64], ends: &[u64], bytes: &[u8]) -> Pushed
     ensures { λ r. ⌜ paperPushed r ≡ pushOf (now (store .entry)) state (now (ids .entry)) (now (ends .entry)) (now (bytes .entry)) .answer ⌝ }
     ensures { λ r. ⌜ now (store .exit) ≡ pushOf (now (store .entry)) state (now (ids .entry)) (now (ends .entry)) (now (bytes .entry)) .store ⌝ }

@@ -22,13 +22,13 @@ abbrev pub paperStarted : Started → Beginning
 paperStarted (At cursor) = at cursor
 paperStarted (Refused r) = refused (numberOf r) (valueOf r)
 
--- 9.2 "the position that the lookup of its id gives, found or absent; what the lookup refuses is refused"
+-- 9.2 "the position at which a find of its id comes out, found or absent; what the find refuses is refused"
 abbrev pub fromLook : Looking → Beginning
 fromLook (found position len) = at position
 fromLook (absent position) = at position
 fromLook (unfound number value) = refused number value
 
--- 9.2 "With an open lower end the cursor is 0, else the position that the lookup of its id gives"
+-- 9.2 "With an open lower end the cursor is 0, else the position at which a find of its id comes out"
 abbrev pub fromEnd : List ℕ → State → End → Beginning
 fromEnd store st Open = at 0
 fromEnd store st (Included id) = fromLook (findOf store st id)

@@ -53,6 +53,7 @@ unfoldable pub forward : List ℕ → Range → ℕ → ℕ → Reaching
 forward log range zero p = ended (length log)
 forward log range (suc k) p = pick (ltb p (pageCount log)) (follow (forward log range k) (stepPage log range p)) (ended (length log))
 
+-- 9.4 "From the cursor's page the step goes forward"
 unfoldable pub forwardFrom : List ℕ → Range → ℕ → Reaching
 forwardFrom log range p = forward log range (pageCount log) p
 
@@ -64,6 +65,7 @@ handReached log out (reached page id len after) = handOver refused (entry id len
 handReached log out (ended cursor) = withOutput (end cursor) out
 handReached log out (faulty number value) = withOutput (refused number value) out
 
+-- forward, and what that comes to handed over
 unfoldable pub advanceOf : List ℕ → Range → ℕ → List ℕ → WithOutput Stepping
 advanceOf log range p out = handReached log out (forwardFrom log range p)
 

@@ -28,7 +28,7 @@ module _ (s : IdSequence) (words : List ℕ) (size : length words ≡ 64) (id : 
       q : raised s id ≡ after
       q = cc
 
-  -- "Noting an id stores it"
+  -- 10.3: the id is noted
   pub note-adds : Adds (noteOf s words id)
   note-adds =
       by-cases s words id Adds (λ number start after e. let z : _≡_ {A = ℕ} 0 1 = cc in absurd (omega arith))

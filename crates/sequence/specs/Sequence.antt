@@ -1,6 +1,5 @@
 -- Rules 10, "Id sequence": what making a sequence, noting an id and asking for completeness answer.
--- after is one past "the highest": from start up to but not including after are the ids that remain; after = start where none do,
--- and since 2^64-1 is never noted after fits 64 bits.
+-- 10.1 "start, and after, one past the highest id noted": since 2^64-1 is never noted, after fits 64 bits.
 use Prim.Native.Nat.{ℕ, zero, suc, _+_, _-_, _/_, min, max}
 use mathlib.Core.Bool.{Bool}
 use mathlib.Core.List.{List}
@@ -23,11 +22,11 @@ abbrev pub paperNoted : Noted → Noting
 paperNoted (At s) = noted (s .start) (s .after)
 paperNoted (Refused r) = refused (numberOf r) (valueOf r)
 
--- 10.1 "made with a start; no id is noted then"
+-- 10.1 "A new one has after equal to start"
 abbrev pub newOf : ℕ → IdSequence
 newOf start = record { start = start; after = start }
 
--- 10.5: none remain of the ids from start to the highest
+-- 10.5 "yes exactly if none remain"
 abbrev pub completeOf : IdSequence → Bool
 completeOf s = leb (s .after) (s .start)
 
@@ -39,7 +38,7 @@ pub record Truncated : Type 0 where
 abbrev pub truncated : ℕ → List ℕ → Truncated
 truncated start words = record { start = start; words = words }
 
--- 10.4 "the first 64 of them, or all if they are fewer"
+-- 10.4 "the first 64 .. or however many there are"
 abbrev pub next : ℕ → ℕ → ℕ
 next after start = min 64 (after - start)
 
@@ -47,7 +46,7 @@ next after start = min 64 (after - start)
 abbrev pub passed : ℕ → ℕ → List ℕ → List ℕ
 passed after start words = pick (ltb 64 (after - start)) (shifted words) words
 
--- 10.4 "while ids from start to the highest remain .. if all are noted, start moves past them, else that is the end": so at most k times
+-- 10.4 "as long as any remain .. start moves past them if each is noted, else it stays and that ends it": so at most k times
 unfoldable pub rounds : ℕ → ℕ → ℕ → List ℕ → Truncated
 rounds zero after start words = truncated start words
 rounds (suc k) after start words =
@@ -61,12 +60,12 @@ rounds (suc k) after start words =
 abbrev pub truncateOf : ℕ → ℕ → List ℕ → Truncated
 truncateOf after start words = rounds (after - start) after start words
 
--- 10.7 "the words up to the id's own lose every bit that is of no id up to the highest so far; the id's bit is set"
+-- 10.7 "clears, in the words up to the id's own, every bit of an id from the old after on; it sets the id's bit"
 abbrev pub stored : IdSequence → List ℕ → ℕ → List ℕ
 stored s words id =
     markedAt (only (s .after - s .start) ((id - s .start) / 64 + 1) words) (id - s .start)
 
--- 10.3 "is the highest if it is above the highest so far"
+-- 10.3 "after becomes the larger of itself and the id + 1"
 abbrev pub raised : IdSequence → ℕ → ℕ
 raised s id = max (s .after) (id + 1)
 

@@ -10,7 +10,7 @@ use Rattle.refusal.specs.Pick.{pick}
 abbrev pub bit : ℕ → ℕ → ℕ
 bit word k = word / 2 ^ k % 2
 
--- 10.6 "Bit k of them", each holding 64
+-- 10.6 "Bit k mod 64 of word k / 64"
 abbrev pub bitAt : List ℕ → ℕ → ℕ
 bitAt words k = bit (getD words (k / 64) 0) (k % 64)
 
@@ -22,7 +22,7 @@ marked word k = pick (eqb (bit word k) 1) word (word + 2 ^ k)
 abbrev pub markedAt : List ℕ → ℕ → List ℕ
 markedAt words k = set words (k / 64) (marked (getD words (k / 64) 0) (k % 64))
 
--- 10.4 "all are noted": the first n bits of a word are set
+-- 10.4 "each is noted": the first n bits of a word are set
 abbrev pub allNoted : ℕ → ℕ → Bool
 allNoted word n = eqb (word % 2 ^ n) (2 ^ n - 1)
 

@@ -55,7 +55,7 @@ impl IdSequence {
         })
     }
 
-    // Whether none remain, that is, every id from the first start to the highest noted has been noted.
+    // Whether none remain, that is, no id up to the highest noted is missing.
     pub fn complete(self) -> bool
         ensures { λ r. ⌜ r ≡ completeOf self ⌝ }
     {
@@ -86,7 +86,7 @@ impl IdSequence {
     }
 }
 
-// The new start: while ids remain it moves past the first 64 of them, or all if fewer, if all are noted.
+// The new start: as long as any remain it moves past the first 64, or however many there are, if each is noted.
 fn truncate(words: &mut [u64; 64], from: u64, after: u64) -> u64
     ensures { λ r. ⌜ truncated r (now (words .exit)) ≡ truncateOf after from (now (words .entry)) ⌝ }
 {

@@ -235,7 +235,7 @@ pub stored-and-missed : findOf (entryPages blank 5 [] ++ entryPages blank 3 []) 
 unfolding pagesFor pageAt numberAt bytesOf markAt lengthAt idAt entryAt blank firstPage laterPage laterPages entryPages tooLong badState leastFrom leastShift offsetOf compared sayingAt turned walk search searchOf findOf
 stored-and-missed = refl
 
--- 11.6: by a state that was made up, with a last written below the log's last id, a push leaves a log that is not sound
+-- 11.7: by a state that was made up, with a last written below the log's last id, a push leaves a log that is not sound
 pub made-up-last : checkOf (pushOf store (stateOf 4096 0 4) (1 ∷ []) (0 ∷ []) [] .store) 5120 ≡ refused 15 4
 unfolding pagesFor pageAt numberAt bytesOf markAt lengthAt idAt entryAt blank firstPage laterPage laterPages laterImage entryPages entryImage tooLong badState entryData some badEnd badBatch largeData someLarge wrote writing turn entriesFrom pushOf laterMarks checkStart checkPage checkEnd checkFrom checkOf
 made-up-last = refl

@@ -1,4 +1,4 @@
--- 11.4: on a sound log, with enough buffer, an id from 1 to below next is found exactly if stored, with its position, data length and data; else it is absent at the first greater entry, or at the log's end. Assumes nothing.
+-- 11.5: the right answer of a lookup on a sound log, and that there is one. Assumes nothing.
 use Prim.Native.Nat.{ℕ, _*_, _≤_, _<_}
 use mathlib.Core.Path.{_≡_, refl, sym, _∙_}
 use mathlib.Core.Logic.{⊎-elim}
@@ -64,12 +64,12 @@ module _ (store : List ℕ) (st : State) (id : ℕ) (good : SoundStore store (st
       (any-guess-right log (good .sound) id (st .next)
       (search-guesses log id (pageCount log) (allPages log (st .next)) (omega arith) (record { lower = some; upper = taken })))
 
-  -- "found exactly if stored"
+  -- both ways, for a stored id
   pub found-iff-stored : (position len : ℕ) → (Stored log id position len → standing (findOf store st id) ≡ present position len) × (standing (findOf store st id) ≡ present position len → Stored log id position len)
   found-iff-stored position len =
       (λ f. right-unique log (good .sound) id (standing (findOf store st id)) (present position len) find-right f, λ e. rw e at find-right)
 
-  -- "else absent at the first greater entry, or at length"
+  -- and for one that is not
   pub absent-iff-missing : (position : ℕ) → (Missing log id position → standing (findOf store st id) ≡ missing position) × (standing (findOf store st id) ≡ missing position → Missing log id position)
   absent-iff-missing position =
       (λ m. right-unique log (good .sound) id (standing (findOf store st id)) (missing position) find-right m, λ e. rw e at find-right)

@@ -1,4 +1,4 @@
--- 11.5: on a sound log left unchanged, with enough buffer, a start and its steps give every stored id in the range once, ascending, with its data, then the end; nothing if a lower end of 1 or more is at or above next. Assumes nothing.
+-- 11.6: what the start of a scan and its steps hand over on a sound log. Assumes nothing.
 use Prim.Native.Nat.{ℕ, _*_, _≤_, _<_}
 use mathlib.Core.Path.{_≡_, refl, ap, _∙_}
 use mathlib.Core.Bool.{false}

@@ -1,4 +1,4 @@
--- How an entry's data is handed over: 10 where the output is small, else the data is copied to its front. Assumes nothing.
+-- How an entry's data is handed over: 10, or the data at the front of the output. Assumes nothing.
 use Prim.Native.Nat.{ℕ, _≤_, _<_}
 use mathlib.Core.Path.{_≡_}
 use mathlib.Core.List.{List}

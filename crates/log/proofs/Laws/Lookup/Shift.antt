@@ -1,4 +1,4 @@
--- The shift of the guess: what leading zeros give is the least number of bits that leaves y below 2^32. Assumes nothing.
+-- The shift of the guess: what leading zeros give is the fewest bits that bring y below 2^32. Assumes nothing.
 use Prim.Native.Nat.{ℕ, zero, suc, _+_, _-_, _^_, _≤_, _<_}
 use mathlib.Core.Path.{_≡_, ap, _∙_, subst}
 use mathlib.Core.Logic.{⊎-elim}
