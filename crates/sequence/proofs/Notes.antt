@@ -24,11 +24,14 @@ module _ (s : IdSequence) (words : List ℕ) (id : ℕ) where
     unfolding noteOf
     note-far h = rw (le-ltb id (s .start) from, le-leb 4096 (id - s .start) h)
 
-    module _ (near : id - s .start < 4096) where
-      pub note-last : id ≡ 18446744073709551615 → noteOf s words id ≡ outcome (refused 12 0) words
-      unfolding noteOf
-      note-last e = rw (le-ltb id (s .start) from, lt-leb 4096 (id - s .start) near, eq-eqb id 18446744073709551615 e)
+    -- near or far
+    pub note-last : id ≡ 18446744073709551615 → noteOf s words id ≡ outcome (refused 12 0) words
+    unfolding noteOf
+    note-last e =
+        ⊎-elim (λ (near : id - s .start < 4096). rw (le-ltb id (s .start) from, lt-leb 4096 (id - s .start) near, eq-eqb id 18446744073709551615 e)) note-far
+        (side (id - s .start) 4096)
 
+    module _ (near : id - s .start < 4096) where
       module _ (fits : id ≡ 18446744073709551615 → ⊥) where
         pub note-in : noteOf s words id ≡ afterMove (raised s id) (truncateOf (raised s id) (s .start) (stored s words id))
         unfolding noteOf
@@ -57,7 +60,7 @@ by-cases s words id P refusal accepted = ⊎-elim (λ l. is _ (note-below s word
     is o e p = rw e p
 
     near : s .start ≤ id → id - s .start < 4096 → (id ≡ 18446744073709551615) ⊎ (id ≡ 18446744073709551615 → ⊥) → P (noteOf s words id)
-    near g l (inl e) = is _ (note-last s words id g l e) (refusal 12)
+    near g l (inl e) = is _ (note-last s words id g e) (refusal 12)
     near g l (inr n) = is _ (note-in s words id g l n) (accepted g l)
 
     from : s .start ≤ id → P (noteOf s words id)

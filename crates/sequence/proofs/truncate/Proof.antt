@@ -4,7 +4,7 @@ use mathlib.Core.Path.{sym, _∙_}
 use native.Mathlib.Omega.{arith}
 use borrow.Author.Needs.{needs}
 use borrow.Author.Tests.{not-true, not-false}
-use Rattle.sequence.proofs.Rounds.{Going, going, going-end, going-stop, going-more, going-last}
+use Rattle.sequence.proofs.Rounds.{Going, going, first-word, going-end, going-stop, going-more, going-last}
 use Rattle.sequence.proofs.truncate.Statement.{statement}
 use Rattle.sequence.proofs.truncate.Tie as tie
 
@@ -28,12 +28,16 @@ all-noted-requires c κs = search needs
 
 returns : tie.Need-returns Inv-loop μ-loop
 returns c =
-    going-stop (c .before .before .before .before .loop .inv) (sym (c .before .all-noted .ensures) ∙ not-true _ (c .if1 .taken))
+    let in-loop = c .before .before .before in
+    let inv = in-loop .before .loop .inv in
+    going-stop inv (first-word inv _ (element-copy-out-all-noted in-loop) (omega arith) (sym (c .before .all-noted .ensures) ∙ not-true _ (c .if1 .taken)))
 
 returns-2 : tie.Need-returns-2 Inv-loop μ-loop
 returns-2 c =
     let d = c .before in
-    going-last (d .before .before .before .before .loop .inv) (omega arith) (omega arith) (sym (d .before .all-noted .ensures) ∙ not-false _ (d .if1 .left))
+    let in-loop = d .before .before .before in
+    let inv = in-loop .before .loop .inv in
+    going-last inv (omega arith) (omega arith) (first-word inv _ (element-copy-out-all-noted in-loop) (omega arith) (sym (d .before .all-noted .ensures) ∙ not-false _ (d .if1 .left)))
 
 shift-requires : tie.Need-shift-requires Inv-loop μ-loop
 shift-requires c κs = search needs
@@ -47,8 +51,10 @@ loop-less c = omega arith
 loop-again : tie.Need-loop-again Inv-loop μ-loop
 loop-again c =
     let d = c .before .before .before in
+    let in-loop = d .before .before .before in
+    let inv = in-loop .before .loop .inv in
     rw (c .shift .ensures)
-    (going-more (d .before .before .before .before .loop .inv) (omega arith) (sym (d .before .all-noted .ensures) ∙ not-false _ (d .if1 .left)))
+    (going-more inv (omega arith) (first-word inv _ (element-copy-out-all-noted in-loop) (omega arith) (sym (d .before .all-noted .ensures) ∙ not-false _ (d .if1 .left))))
 
 returns-3 : tie.Need-returns-3 Inv-loop μ-loop
 returns-3 c = going-end (c .before .loop .inv) (c .loop-test .left)

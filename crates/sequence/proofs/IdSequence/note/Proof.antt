@@ -12,7 +12,7 @@ returns-2 : tie.Need-returns-2
 returns-2 c = apart (note-far _ _ _ (omega arith) (omega arith))
 
 returns-3 : tie.Need-returns-3
-returns-3 c = apart (note-last _ _ _ (omega arith) (omega arith) (omega arith))
+returns-3 c = apart (note-last _ _ _ (omega arith) (omega arith))
 
 remaining-requires : tie.Need-remaining-requires
 remaining-requires c κs = search needs
@@ -21,7 +21,7 @@ add-forget : tie.Need-add-forget
 add-forget c = search needs
 
 forget-requires : tie.Need-forget-requires
-forget-requires c κs = search needs
+forget-requires c κs = omega arith
 
 mul-mark : tie.Need-mul-mark
 mul-mark c = search needs
@@ -39,7 +39,7 @@ element-write-words : tie.Need-element-write-words
 element-write-words c = search needs
 
 raised-requires : tie.Need-raised-requires
-raised-requires c κs = search needs
+raised-requires c κs = omega arith
 
 truncate-requires : tie.Need-truncate-requires
 truncate-requires c κs = search needs

@@ -22,7 +22,7 @@ returns c =
     rw (one-shifted (c .before .args .n) (c .if1 .taken), min-eq-right {n = c .before .args .n} {m = 64} (omega arith))
 
 returns-2 : tie.Need-returns-2
-returns-2 c = rw (min-eq-left {n = 64} {m = c .before .args .n} (c .if1 .left))
+returns-2 c = rw (min-eq-left {n = 64} {m = c .before .args .n} (c .if1 .left)) (omega arith)
 
 pub mask-spec : {M : Type 1} → statement M
 mask-spec = tie.close (tie.spec shl-result sub-result returns returns-2)
