@@ -9,6 +9,10 @@ use lib.ListN.{length, getD, set, take, drop, length-append, List·getD-append}
 use lib.Seq.{set-at, getD-at, drop-cons, ext-getD, append-snoc, length-take-le, take-suc}
 use Rattle.page.specs.Tab.{tab}
 
+-- lists that begin with the same value and go on alike
+pub cons-same : {a b : ℕ} {l m : List ℕ} → a ≡ b → l ≡ m → _≡_ {A = List ℕ} (a ∷ l) (b ∷ m)
+cons-same e f = cc
+
 pub length-tab : (f : ℕ → ℕ) (n : ℕ) → length (tab f n) ≡ n
 length-tab f zero = refl
 length-tab f (suc n) = simp (length-append, length-tab f n, add-one)

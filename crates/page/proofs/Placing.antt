@@ -5,12 +5,13 @@ use Prim.Native.Nat.{ℕ, _+_, _-_, _*_, _/_, _%_, _<_, _≤_}
 use native.Mathlib.Decide.{decLt}
 use native.Mathlib.Omega.{arith}
 use borrow.Author.Tests.{lt-ltb, le-ltb}
-use lib.ListN.{length, drop}
+use lib.ListN.{length, take, drop}
 use lib.Seq.{getD-drop}
 use Rattle.page.specs.Size.{pageSize, laterPayload, firstData, dataStart, idSize, pagesForData}
 use Rattle.page.specs.Data.{placeOf, dataOf, dataAt}
 use Rattle.page.proofs.Listing.{length-tab, tab-same}
 use Rattle.page.proofs.Counting.{pages-linear}
+use Rattle.page.proofs.Parting.{rest-of}
 use Rattle.page.specs.Private.{dataFrom}
 
 module _ (i : ℕ) where
@@ -33,12 +34,12 @@ module _ (i : ℕ) where
   pub place-within : (n : ℕ) → i < n → placeOf i < pagesForData n * pageSize
   place-within n h = omega (arith, place-linear, pages-linear (idSize + n))
 
--- the part from where the data begins
-pub data-from : (part : List ℕ) (n : ℕ) → dataFrom (drop dataStart part) n ≡ dataOf part n
+-- the part from byte a on, where the data begins
+pub data-from : (part : List ℕ) (n a : ℕ) → a ≤ length part → a ≡ dataStart → dataFrom (take (length part - a) (drop a part)) n ≡ dataOf part n
 unfolding dataFrom dataOf
-data-from part n = tab-same _ _ n (λ i h.
+data-from part n a within begins = rw (begins, rest-of dataStart part) (tab-same _ _ n (λ i h.
     let e : dataStart + (placeOf i - dataStart) ≡ placeOf i = omega (arith, place-linear i) in
-    getD-drop dataStart part (placeOf i - dataStart) 0 ∙ rw e)
+    getD-drop dataStart part (placeOf i - dataStart) 0 ∙ rw e))
 
 pub length-data : (log : List ℕ) (s n : ℕ) → length (dataAt log s n) ≡ n
 unfolding dataAt dataOf

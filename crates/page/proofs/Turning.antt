@@ -8,30 +8,41 @@ use lib.ListN.{length, take, drop, set, length-drop, length-take, length-append,
 use lib.Seq.{drop-drop, take-at, drop-at, length-take-le}
 use Rattle.page.specs.Write.{overwritten, laterPage, laterPages, laterImage}
 use Rattle.page.proofs.Parting.{rest-of, put-back, overwritten-length, overwritten-first, overwritten-more, take-min}
-use Rattle.page.specs.Size.{laterPayload, pageSize}
+use Rattle.page.specs.Size.{laterPayload, pageSize, started}
 
--- the image after mark 0 was put, and then the data's first m bytes
-pub later-image : (image d ys : List ℕ) (m : ℕ) → 0 < length image → m ≡ min (length d) laterPayload
-    → ys ≡ overwritten (take (length (set image 0 0) - 1) (drop 1 (set image 0 0))) (take m d)
-    → take 1 (set image 0 0) ++ (ys ++ drop (length (set image 0 0) - 1) (drop 1 (set image 0 0))) ≡ laterPage image d
-unfolding laterPage
-later-image image d ys m h e y =
-    let bytes : take m d ≡ take laterPayload d = ap (λ (k : ℕ). take k d) e ∙ take-min laterPayload d in
-    overwritten-more image (set image 0 0) (0 ∷ []) (take m d) ys 1 (overwritten-first image 0 h) refl y
-    ∙ ap (λ (x : List ℕ). overwritten image (0 ∷ x)) bytes
+-- the image after a mark was put, and then the data's first m bytes
+module _ (image d ys : List ℕ) (m mark : ℕ) (full : length image ≡ pageSize) (e : m ≡ min (length d) laterPayload)
+    (y : ys ≡ overwritten (take (length (set image 0 mark) - 1) (drop 1 (set image 0 mark))) (take m d)) where
+  abbrev left : List ℕ
+  left = take 1 (set image 0 mark) ++ (ys ++ drop (length (set image 0 mark) - 1) (drop 1 (set image 0 mark)))
+
+  left-is : left ≡ overwritten image (mark ∷ take laterPayload d)
+  left-is =
+      overwritten-more image (set image 0 mark) (mark ∷ []) (take m d) ys 1 (overwritten-first image mark (omega arith)) refl y
+      ∙ ap (λ (x : List ℕ). overwritten image (mark ∷ x)) (ap (λ (k : ℕ). take k d) e ∙ take-min laterPayload d)
+
+  pub length-left : length left ≡ length image
+  length-left = ap length left-is ∙ overwritten-length image (mark ∷ take laterPayload d) (omega (arith, length-take laterPayload d))
+
+  -- a later page has mark 0
+  pub later-image : mark ≡ 0 → left ≡ laterPage image d
+  unfolding laterPage
+  later-image z = left-is ∙ ap (λ (x : ℕ). overwritten image (x ∷ take laterPayload d)) z
 
 -- what holds at the loop's head: the pages written and the definition of the rest are the definition of the whole
 pub record LaterLoop (part₀ img₀ b : List ℕ) (k : ℕ) (part img : List ℕ) (j : ℕ) : Type 0 where
   pub most : j ≤ k
   pub size : length img ≡ pageSize
   pub long : length part ≡ length part₀
+  pub count : k ≡ started laterPayload (length b)
   pub room : k * pageSize ≤ length part₀
   pub pages : take (j * pageSize) part ++ laterPages (k - j) img (drop (j * laterPayload) b) ≡ laterPages k img₀ b
   pub image : laterImage (k - j) img (drop (j * laterPayload) b) ≡ laterImage k img₀ b
   pub after : drop (j * pageSize) part ≡ drop (j * pageSize) part₀
 
-pub later-begins : (part img b : List ℕ) (k : ℕ) → length img ≡ pageSize → k * pageSize ≤ length part → LaterLoop part img b k part img 0
-later-begins part img b k h r = record { most = omega arith; size = h; long = refl; room = r; pages = rw (sub-zero k); image = rw (sub-zero k); after = refl }
+pub later-begins : (part img b : List ℕ) (k : ℕ) → k ≡ started laterPayload (length b) → length img ≡ pageSize → started laterPayload (length b) * pageSize ≤ length part
+    → LaterLoop part img b k part img 0
+later-begins part img b k e h r = record { most = omega arith; size = h; long = refl; count = e; room = omega arith; pages = rw (sub-zero k); image = rw (sub-zero k); after = refl }
 
 pub length-later : (img d : List ℕ) → length img ≡ pageSize → length (laterPage img d) ≡ pageSize
 unfolding laterPage
@@ -89,6 +100,7 @@ module _ (part₀ img₀ b : List ℕ) (k : ℕ) (part img : List ℕ) (j : ℕ)
     most = omega arith;
     size = full;
     long = rw is (simp (length-append, length-take, full, length-drop) (omega arith));
+    count = h .count;
     room = h .room;
     pages = rw (is, take-at _ _ _ front, append-assoc, ← pages-next) (h .pages);
     image = sym image-next ∙ h .image;
@@ -96,10 +108,10 @@ module _ (part₀ img₀ b : List ℕ) (k : ℕ) (part img : List ℕ) (j : ℕ)
   }
 
 pub later-ends : (part₀ img₀ b : List ℕ) (k : ℕ) (part img : List ℕ) (j : ℕ) → LaterLoop part₀ img₀ b k part img j → k ≤ j
-    → (img ≡ laterImage k img₀ b) × (part ≡ overwritten part₀ (laterPages k img₀ b))
+    → (img ≡ laterImage (started laterPayload (length b)) img₀ b) × (part ≡ overwritten part₀ (laterPages (started laterPayload (length b)) img₀ b))
 unfolding laterPages laterImage
 later-ends part₀ img₀ b k part img j h l =
     let z : k - j ≡ 0 = omega arith in
     let p : take (j * pageSize) part ≡ laterPages k img₀ b = simp (z, append-nil) at (h .pages) in
     let n : length (laterPages k img₀ b) ≡ j * pageSize = rw (← p) (length-take-le (j * pageSize) part (omega arith)) in
-    (rw z at (h .image), sym (take-append-drop (j * pageSize) part) ∙ rw (p, h .after, n))
+    rw (← h .count) (rw z at (h .image), sym (take-append-drop (j * pageSize) part) ∙ rw (p, h .after, n))

@@ -20,7 +20,7 @@ use Rattle.page.proofs.Placing.{place-first, place-later}
 use Rattle.page.proofs.Paging.{mark-byte}
 use Rattle.page.proofs.Heading.{length-head, first-is, length-first}
 use Rattle.page.proofs.Turning.{length-later}
-use Rattle.page.proofs.Joining.{pages-are, image-is}
+use Rattle.page.proofs.Joining.{pages-are, image-is, length-entry}
 use Rattle.page.specs.Private.{headOf}
 
 -- ---- later pages
@@ -87,7 +87,7 @@ module _ (image : List ℕ) (id : ℕ) (d : List ℕ) (full : length image ≡ p
   mark-later j some within =
       let n = length-first image id d full in
       let p : j * pageSize ≡ length first + (j - 1) * pageSize = omega arith in
-      mark-byte (entryPages image id d) j ∙ rw (pages-are image id d, p) (getD-append-add first later ((j - 1) * pageSize) 0)
+      mark-byte (entryPages image id d) j (j * pageSize) (omega (arith, length-entry image id d full)) refl ∙ rw (pages-are image id d, p) (getD-append-add first later ((j - 1) * pageSize) 0)
       ∙ later-mark (started laterPayload (length d - firstData)) first (drop firstData d) (j - 1) n (omega (arith, pages-linear (idSize + length d)))
 
   pub length-first-page : length d < dataEnd → lengthAt (entryPages image id d) 0 ≡ idSize + length d

@@ -6,10 +6,8 @@ use native.Mathlib.Omega.{arith}
 use borrow.Author.Needs.{needs}
 use lib.ListN.{drop}
 use Rattle.page.proofs.Counting.{pages-some}
-use Rattle.page.proofs.Parting.{rest-of}
 use Rattle.page.proofs.Placing.{data-from}
-use Rattle.page.specs.Private.{dataFrom}
-use Rattle.page.specs.Size.{dataStart, idSize}
+use Rattle.page.specs.Size.{idSize}
 use Rattle.page.proofs.copying.copy_entry.Statement.{statement}
 use Rattle.page.proofs.copying.copy_entry.Tie as tie
 
@@ -32,7 +30,7 @@ returns : tie.Need-returns
 returns c =
     let a = c .before .before .before .before .before .before .before .args in
     c .before .before .copy-from .ensures
-    ∙ ap (λ (d : List ℕ). d ++ drop (a .n) (a .out .now)) (ap (λ (p : List ℕ). dataFrom p (a .n)) (rest-of dataStart (a .part .now)) ∙ data-from (a .part .now) (a .n))
+    ∙ ap (λ (d : List ℕ). d ++ drop (a .n) (a .out .now)) (data-from (a .part .now) (a .n) _ (part-copy-from-start (c .before .before .before .before .before)) (omega arith))
 
 pub copy-entry-spec : {M : Type 1} → statement M
 copy-entry-spec =

@@ -1,5 +1,8 @@
--- `head` meets its contract: the digits of the length and the id, high byte first. Assumes nothing.
+-- `head` meets its contract, byte by byte: the mark, and the digits of the length and the id, high byte first. Assumes nothing.
+use mathlib.Core.Path.{refl}
+use native.Mathlib.Omega.{arith}
 use borrow.Author.Needs.{needs}
+use Rattle.page.proofs.Listing.{cons-same}
 use Rattle.page.specs.Bytes.{bytesOf}
 use Rattle.page.proofs.writing.head.Statement.{statement}
 use Rattle.page.proofs.writing.head.Tie as tie
@@ -39,7 +42,11 @@ cast-t34 c = search needs
 
 returns : tie.Need-returns
 unfolding bytesOf
-returns c = search needs
+returns c =
+    cons-same (omega arith)
+    (cons-same (omega arith) (cons-same (omega arith) (cons-same (omega arith)
+    (cons-same (omega arith) (cons-same (omega arith) (cons-same (omega arith) (cons-same (omega arith)
+    (cons-same (omega arith) (cons-same (omega arith) (cons-same (omega arith) (cons-same (omega arith) refl)))))))))))
 
 pub head-spec : {M : Type 1} → statement M
 head-spec =

@@ -1,8 +1,9 @@
 -- `write_later` meets its contract: mark 0, as much of the data as a page holds, and the image to the part. Assumes nothing.
+use native.Mathlib.Nat.{le-trans, le-of-eq}
 use native.Mathlib.Omega.{arith}
 use borrow.Author.Needs.{needs}
 use lib.ListN.{length-set, length-take, length-drop}
-use Rattle.page.proofs.Turning.{later-image}
+use Rattle.page.proofs.Turning.{length-left, later-image}
 use Rattle.page.proofs.writing.write_later.Statement.{statement}
 use Rattle.page.proofs.writing.write_later.Tie as tie
 
@@ -28,20 +29,28 @@ put-requires : tie.Need-put-requires
 put-requires c κs = simp (length-take, length-drop, length-set) (omega arith)
 
 put-requires-2 : tie.Need-put-requires-2
-put-requires-2 c κs = omega (arith, length-set (c .before .before .before .before .before .before .before .before .before .before .before .args .image .now) 0 0)
+put-requires-2 c κs =
+    let at-put = c .before .before .before .before in
+    let at-least = at-put .before .before .before in
+    let a = at-least .before .before .before .before .args in
+    le-trans (le-of-eq (length-left (a .image .now) (a .bytes .now) (at-put .put .last .0) (at-least .least .result) _ (omega arith) (at-least .least .ensures) (at-put .put .ensures))) (omega arith)
 
 same-length : tie.Need-same-length
 same-length c = search needs
 
 same-length-2 : tie.Need-same-length-2
-same-length-2 c = omega (arith, length-set (c .before .before .before .before .before .before .before .before .before .before .before .before .before .before .args .image .now) 0 0)
+same-length-2 c =
+    let at-put = c .before .before .before .before .before .before .before in
+    let at-least = at-put .before .before .before in
+    let a = at-least .before .before .before .before .args in
+    length-left (a .image .now) (a .bytes .now) (at-put .put .last .0) (at-least .least .result) _ (omega arith) (at-least .least .ensures) (at-put .put .ensures)
 
 returns : tie.Need-returns
 returns c =
     let at-put = c .before .before .before .before .before .before .before in
     let at-least = at-put .before .before .before in
     let a = at-least .before .before .before .before .args in
-    (later-image (a .image .now) (a .bytes .now) (at-put .put .last .0) (at-least .least .result) (omega arith) (at-least .least .ensures) (at-put .put .ensures), c .before .before .put2 .ensures)
+    (later-image (a .image .now) (a .bytes .now) (at-put .put .last .0) (at-least .least .result) _ (omega arith) (at-least .least .ensures) (at-put .put .ensures) (omega arith), c .before .before .put2 .ensures)
 
 pub write-later-spec : {M : Type 1} → statement M
 write-later-spec =

@@ -21,7 +21,7 @@ add-k : tie.Need-add-k Inv-loop μ-loop
 add-k c = omega arith
 
 loop-holds : tie.Need-loop-holds Inv-loop μ-loop
-loop-holds c = later-begins _ _ _ _ (c .before .before .before .pre .1) (c .before .before .before .pre .0)
+loop-holds c = later-begins _ _ _ _ (omega arith) (c .before .before .before .pre .1) (c .before .before .before .pre .0)
 
 mul-at : tie.Need-mul-at Inv-loop μ-loop
 mul-at c = omega arith

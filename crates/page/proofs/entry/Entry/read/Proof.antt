@@ -39,7 +39,7 @@ returns-2 : tie.Need-returns-2
 returns-2 c =
     let at-pages = c .before .before in
     let at-read = at-pages .before .before in
-    reads-cut _ _ _ (at-read .read .ensures .0) (omega arith) _ (ap (λ (k : ℕ). at-read .before .before .before .args .s + k) (at-pages .pages-for .ensures)) _ (at-read .read .ensures .1) (omega arith)
+    reads-cut _ _ _ (at-read .read .ensures .0) (omega arith) _ (ap (λ (k : ℕ). at-read .before .before .before .args .s + k) (at-pages .pages-for .ensures)) _ (omega arith) (omega arith)
 
 returns-3 : tie.Need-returns-3
 returns-3 c =

@@ -1,7 +1,9 @@
--- `Mark::read` meets its contract: each return rewrites with the tests that led there. Assumes nothing.
+-- `Mark::read` meets its contract: the byte read is the page's mark, and each return is a case of `Marking`. Assumes nothing.
+use mathlib.Core.Path.{sym, _∙_}
+use native.Mathlib.Omega.{arith}
 use borrow.Author.Needs.{needs}
-use borrow.Author.Tests.{eq-eqb, ne-eqb}
 use Rattle.page.proofs.Paging.{mark-byte}
+use Rattle.page.proofs.Marking.{by-start, by-later, by-bad}
 use Rattle.page.proofs.marks.Mark.read.Statement.{statement}
 use Rattle.page.proofs.marks.Mark.read.Tie as tie
 
@@ -9,16 +11,23 @@ mul-at : tie.Need-mul-at
 mul-at c = search needs
 
 shared-slice-read-mark : tie.Need-shared-slice-read-mark
-shared-slice-read-mark c = search needs
+shared-slice-read-mark c = omega arith
 
 returns : tie.Need-returns
-returns c = rw mark-byte (simp (eq-eqb _ _ (c .if1 .taken)))
+returns c =
+    let a = c .before .before .args in
+    sym (by-start _ _ _ _ (mark-byte (a .log .now) (a .p) _ (shared-slice-read-mark (c .before)) (omega arith) ∙ omega arith))
 
 returns-2 : tie.Need-returns-2
-returns-2 c = rw mark-byte (simp (ne-eqb _ _ (c .before .if1 .left), eq-eqb _ _ (c .if2 .taken)))
+returns-2 c =
+    let a = c .before .before .before .args in
+    sym (by-later _ _ _ _ (mark-byte (a .log .now) (a .p) _ (shared-slice-read-mark (c .before .before)) (omega arith) ∙ omega arith))
 
 returns-3 : tie.Need-returns-3
-returns-3 c = rw mark-byte (simp (ne-eqb _ _ (c .before .if1 .left), ne-eqb _ _ (c .if2 .left)))
+returns-3 c =
+    let a = c .before .before .before .args in
+    let mark = mark-byte (a .log .now) (a .p) _ (shared-slice-read-mark (c .before .before)) (omega arith) in
+    sym (by-bad _ _ _ _ (λ e. c .before .if1 .left (sym mark ∙ e), λ e. c .if2 .left (sym mark ∙ e)))
 
 pub read-spec : {M : Type 1} → statement M
 read-spec = tie.close (tie.spec mul-at shared-slice-read-mark returns returns-2 returns-3)
