@@ -2,6 +2,7 @@
 use mathlib.Core.Path.{sym, _∙_}
 use native.Mathlib.Omega.{arith}
 use borrow.Author.Needs.{needs}
+use Rattle.page.specs.Mark.{markAt}
 use Rattle.page.proofs.Paging.{mark-byte}
 use Rattle.page.proofs.Marking.{by-start, by-later, by-bad}
 use Rattle.page.proofs.marks.Mark.read.Statement.{statement}
@@ -27,7 +28,7 @@ returns-3 : tie.Need-returns-3
 returns-3 c =
     let a = c .before .before .before .args in
     let mark = mark-byte (a .log .now) (a .p) _ (shared-slice-read-mark (c .before .before)) (omega arith) in
-    sym (by-bad _ _ _ _ (λ e. c .before .if1 .left (sym mark ∙ e), λ e. c .if2 .left (sym mark ∙ e)))
+    sym (by-bad (markAt (a .log .now) (a .p)) _ _ _ (λ e. omega arith, λ e. omega arith))
 
 pub read-spec : {M : Type 1} → statement M
 read-spec = tie.close (tie.spec mul-at shared-slice-read-mark returns returns-2 returns-3)
