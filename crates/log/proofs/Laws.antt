@@ -1,4 +1,5 @@
 pub mod Bounds
+pub mod States
 pub mod Output
 pub mod Recovery
 pub mod Check

@@ -1,7 +1,7 @@
 -- `recover` meets its contract. Assumes nothing.
 use mathlib.Core.Path.{refl, sym, _∙_}
 use native.Mathlib.Omega.{arith}
-use Rattle.log.proofs.Laws.Recovery.Steps.{part-length, cut-pages, recover-bad, recover-fresh, recover-tail}
+use Rattle.log.proofs.Laws.Recovery.Steps.{part-length, recover-bad, recover-fresh, recover-part}
 use Rattle.log.proofs.recovery.recover.Statement.{statement}
 use Rattle.log.proofs.recovery.recover.Tie as tie
 
@@ -24,10 +24,15 @@ slice-aggregate-walk-back : tie.Need-slice-aggregate-walk-back
 slice-aggregate-walk-back c = part-length _ _ (sym (c .before .before .before .is-too-long .ensures) ∙ c .before .before .if1 .left) _ (λ f. omega arith)
 
 walk-back-requires : tie.Need-walk-back-requires
-walk-back-requires c κs = cut-pages _ _ (sym (c .before .before .before .is-too-long .ensures) ∙ c .before .before .if1 .left) _ (omega arith) (c .before .if2 .left)
+walk-back-requires c κs =
+    let some = c .before .if2 .left in
+    omega (arith, slice-aggregate-walk-back c)
 
 returns-3 : tie.Need-returns-3
-returns-3 c = c .walk-back .ensures ∙ recover-tail _ _ (sym (c .before .before .before .before .is-too-long .ensures) ∙ c .before .before .before .if1 .left) _ (omega arith) (c .before .before .if2 .left)
+returns-3 c =
+    let some = c .before .before .if2 .left in
+    c .walk-back .ensures
+    ∙ recover-part _ _ (sym (c .before .before .before .before .is-too-long .ensures) ∙ c .before .before .before .if1 .left) _ (slice-aggregate-walk-back (c .before)) (omega arith) (λ z. omega arith)
 
 pub recover-spec : {M : Type 1} → statement M
 recover-spec =

@@ -1,5 +1,5 @@
 -- `lookup` meets its contract: each return is one law of `Handing`. Assumes nothing.
-use Prim.Native.Nat.{ℕ}
+use Prim.Native.Nat.{ℕ, _%_}
 use mathlib.Core.Path.{_≡_, sym, ap, _∙_}
 use mathlib.Core.Logic.{_⊎_, inl, inr}
 use mathlib.Core.List.{List}
@@ -8,6 +8,7 @@ use borrow.Author.Needs.{needs}
 use denote.Enum.Declared.{tagOf}
 use lib.ListN.{length, take}
 use Rattle.refusal.specs.Refusal.{numberOf, valueOf}
+use Rattle.page.specs.Size.{pageSize}
 use Rattle.log.specs.Output.{withOutput}
 use Rattle.log.specs.Lookup.{found, findOf, lookupOf, paperLook}
 use Rattle.log.specs.declared.state.State.{State}
@@ -15,7 +16,7 @@ use Rattle.log.specs.declared.searching.Look.{Look}
 use Rattle.log.specs.declared.searching.Look.the-variants.{Found, Absent, Refused}
 use Rattle.log.proofs.searching.Look as look
 use Rattle.log.proofs.Laws.Bounds.{good-state, length-log}
-use Rattle.log.proofs.Laws.Lookup.Positions.{found-good}
+use Rattle.log.proofs.Laws.Lookup.Positions.{found-whole, found-good}
 use Rattle.log.proofs.Laws.Lookup.Handing.{data-within, found-small, found-copied, absent-nothing, refused-nothing}
 use Rattle.log.proofs.searching.lookup.Statement.{statement}
 use Rattle.log.proofs.searching.lookup.Tie as tie
@@ -27,6 +28,10 @@ start-of c = c .before .before .before .before .before
 
 is-found : (c : tie.After-look) → findOf (start-of c .args .store .now) (start-of c .args .state) (start-of c .args .id) ≡ found (c .look .given .0 .0) (c .look .given .0 .1 .0)
 is-found c = sym (c .before .before .find .ensures) ∙ ap paperLook (c .look .given .1)
+
+-- a position that is found is that of a page
+at-page : (c : tie.After-look) → c .look .given .0 .0 % pageSize ≡ 0
+at-page c = omega (arith, found-whole _ _ _ _ _ (is-found c) .at-page)
 
 log-length : (c : tie.After-look) → length (take (start-of c .args .state .length) (start-of c .args .store .now)) ≡ start-of c .args .state .length
 log-length c = length-log _ _ (good-state _ _ (found-good _ _ _ _ _ (is-found c)) .fits .inside)
@@ -55,7 +60,9 @@ slice-aggregate-copy-data : tie.Need-slice-aggregate-copy-data
 slice-aggregate-copy-data c = sym (log-length (c .before .before .before))
 
 copy-data-requires : tie.Need-copy-data-requires
-copy-data-requires c κs = (omega arith, data-within _ _ _ (start-of (c .before .before .before .before) .args .out .now) _ _ (is-found (c .before .before .before .before)) _ (omega arith))
+copy-data-requires c κs =
+    let at-found = c .before .before .before .before in
+    (omega arith, data-within _ _ _ (start-of at-found .args .out .now) _ _ (is-found at-found) _ (omega (arith, at-page at-found)))
 
 same-length : tie.Need-same-length
 same-length c = search needs
@@ -64,7 +71,7 @@ returns-2 : tie.Need-returns-2
 returns-2 c =
     let at-found = c .before .before .before .before .before .before .before in
     ap (withOutput (found (at-found .look .given .0 .0) (at-found .look .given .0 .1 .0))) (c .before .before .copy-data .ensures)
-    ∙ sym (found-copied _ _ _ _ _ _ (is-found at-found) _ (omega arith) (omega arith))
+    ∙ sym (found-copied _ _ _ _ _ _ (is-found at-found) _ (omega (arith, at-page at-found)) (omega arith))
 
 returns-3 : tie.Need-returns-3
 returns-3 c = nothing _ _ _ _ (c .before .find .result) (c .match .keys2) (c .before .find .ensures)

@@ -1,20 +1,17 @@
--- `State::take` meets its contract: each return rewrites with the test that led there. Assumes nothing.
-use borrow.Author.Needs.{needs}
-use borrow.Author.Tests.{eq-eqb, ne-eqb}
-use Rattle.log.specs.State.{takeOf}
+-- `State::take` meets its contract: each return is one law of `States`. Assumes nothing.
+use native.Mathlib.Omega.{arith}
+use Rattle.log.proofs.Laws.States.{take-refused, take-moves}
 use Rattle.log.proofs.state.State.take.Statement.{statement}
 use Rattle.log.proofs.state.State.take.Tie as tie
 
 returns : tie.Need-returns
-unfolding takeOf
-returns c = simp (eq-eqb _ _ (c .if1 .taken))
+returns c = take-refused _ (omega arith)
 
 add-t5 : tie.Need-add-t5
-add-t5 c = search needs
+add-t5 c = let some = c .if1 .left in omega arith
 
 returns-2 : tie.Need-returns-2
-unfolding takeOf
-returns-2 c = simp (ne-eqb _ _ (c .if1 .left))
+returns-2 c = take-moves _ (c .if1 .left) _ (omega arith)
 
 pub take-spec : {M : Type 1} → statement M
 take-spec = tie.close (tie.spec returns add-t5 returns-2)
