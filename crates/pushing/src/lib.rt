@@ -93,7 +93,10 @@ fn write_in_turn(
     requires { ⌜ (state .length ≤ length (now store)) × (length (now image) ≡ pageSize) ⌝ }
     ensures { λ r. ⌜ ((j : ℕ) → paperEntryTurn j (now (image .exit)) (now (store .exit)) r ≡ turn j id (now (bytes .entry)) (point state (now (image .entry)) (now (store .entry)))) ⌝ }
 {
-    if id <= state.last {
+    let at = state.length as usize;
+    let room = (store.len() - at) / Page::SIZE;
+    let late = id <= state.last;
+    if late {
         return EntryTurn::Refused(Refusal::OutOfOrder, state);
     }
     // 3 and 4 use up the id
@@ -102,8 +105,7 @@ fn write_in_turn(
         return EntryTurn::Refused(Refusal::TooLarge, used);
     }
     let pages = Page::pages_for_data(bytes.len());
-    let at = state.length as usize;
-    if (store.len() - at) / Page::SIZE < pages {
+    if room < pages {
         return EntryTurn::Refused(Refusal::NoRoom, used);
     }
     page::write_entry(&mut store[at..], image, id, bytes);

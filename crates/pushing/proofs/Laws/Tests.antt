@@ -1,7 +1,7 @@
 -- A push's tests in their order: what each gives, for the whole batch and at an entry's turn. Assumes nothing.
 use Prim.Native.Nat.{ℕ, _+_, _-_, _≤_, _<_}
 use mathlib.Core.Path.{_≡_}
-use mathlib.Core.Bool.{true, false}
+use mathlib.Core.Bool.{Bool, true, false}
 use mathlib.Core.Logic.{⊎-elim}
 use mathlib.Core.List.{List}
 use native.Mathlib.Omega.{arith}
@@ -36,6 +36,14 @@ module _ (store : List ℕ) (st : State) (ids ends bytes : List ℕ) where
       entries-in-turn c = rw (a, b, c)
 
 -- ---- an entry's turn
+
+-- the test of the order, as the code has it, tells whether the id is above the last
+module _ (id last : ℕ) (late : Bool) where
+  pub is-late : (last < id → late ≡ false) → late ≡ true → id ≤ last
+  is-late h e = ⊎-elim (λ l. let f = h l in absurd (let z : _≡_ {A = ℕ} 0 1 = cc in omega arith)) (λ l. l) (side last id)
+
+  pub not-late : (id ≤ last → late ≡ true) → late ≡ false → last < id
+  not-late h e = ⊎-elim (λ l. l) (λ l. let f = h l in absurd (let z : _≡_ {A = ℕ} 0 1 = cc in omega arith)) (side last id)
 
 -- all that an entry's turn may come to
 pub data EntrySays (j id : ℕ) (d : List ℕ) (p : Point) : Round Done Point → Type 0 where

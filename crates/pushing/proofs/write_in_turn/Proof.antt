@@ -1,20 +1,28 @@
 -- `write_in_turn` meets its contract: the tests in order, then the pages. Assumes nothing.
-use Prim.Native.Nat.{ℕ, _*_}
+use Prim.Native.Nat.{ℕ, _*_, _<_}
 use mathlib.Core.Path.{refl, sym, ap}
 use native.Mathlib.Omega.{arith}
+use borrow.Author.Tests.{le-leb, lt-leb}
 use lib.ListN.{length-drop}
 use Rattle.page.specs.Size.{pageSize}
 use Rattle.page.proofs.Parting.{rest-of}
 use Rattle.pushing.specs.Push.{point}
-use Rattle.pushing.proofs.Laws.Tests.{turn-order}
+use Rattle.pushing.proofs.Laws.Tests.{is-late, not-late, turn-order}
 use Rattle.pushing.proofs.Laws.Entries.{refuse-too-large, refuse-no-room, write-pages}
 use Rattle.pushing.proofs.write_in_turn.Statement.{statement}
 use Rattle.pushing.proofs.write_in_turn.Tie as tie
 
+-- past the test of the order
+above : (c : tie.Else1) → c .before .before .before .before .before .args .state .last < c .before .before .before .before .before .args .id
+above c = not-late _ _ _ (λ l. rw (le-leb _ _ l)) (c .if1 .left)
+
+sub-room : tie.Need-sub-room
+sub-room c = omega arith
+
 returns : tie.Need-returns
 returns c =
     let a = c .before .before .before .before .before .args in
-    λ j. sym (turn-order j (a .id) (a .bytes .now) (point (a .state) (a .image .now) (a .store .now)) (omega arith))
+    λ j. sym (turn-order j (a .id) (a .bytes .now) (point (a .state) (a .image .now) (a .store .now)) (is-late _ _ _ (λ l. rw (lt-leb _ _ l)) (c .if1 .taken)))
 
 moved-requires : tie.Need-moved-requires
 moved-requires c κs = tt
@@ -22,19 +30,16 @@ moved-requires c κs = tt
 returns-2 : tie.Need-returns-2
 returns-2 c =
     let a = c .before .before .before .before .before .before .before .args in
-    λ j. refuse-too-large (a .id) (a .bytes .now) (a .state) (a .image .now) (a .store .now) (omega arith) j _ _ (c .before .moved .ensures) (omega arith) (omega arith)
+    λ j. refuse-too-large (a .id) (a .bytes .now) (a .state) (a .image .now) (a .store .now) (above (c .before .before)) j _ _ (c .before .moved .ensures) (omega arith) (omega arith)
 
 pages-for-data-requires : tie.Need-pages-for-data-requires
 pages-for-data-requires c κs = omega arith
-
-sub-if3 : tie.Need-sub-if3
-sub-if3 c = omega arith
 
 returns-3 : tie.Need-returns-3
 returns-3 c =
     let a = c .before .before .before .before .before .before .before .before .before .args in
     let k = ap (λ (n : ℕ). n * pageSize) (c .before .pages-for-data .ensures) in
-    λ j. refuse-no-room (a .id) (a .bytes .now) (a .state) (a .image .now) (a .store .now) (omega arith) j (omega arith) _ k _ _ (c .before .before .before .moved .ensures) (omega arith) (omega arith)
+    λ j. refuse-no-room (a .id) (a .bytes .now) (a .state) (a .image .now) (a .store .now) (above (c .before .before .before .before)) j (omega arith) _ k _ _ (c .before .before .before .moved .ensures) (omega arith) (omega arith)
 
 sub-write-entry : tie.Need-sub-write-entry
 sub-write-entry c = omega arith
@@ -68,17 +73,17 @@ returns-4 c =
     let a = c .before .before .before .before .before .before .before .before .before .before .before .before .before .before .before .before .before .args in
     let k = ap (λ (n : ℕ). n * pageSize) (c .before .before .before .before .before .before .before .before .before .pages-for-data .ensures) in
     let w = c .before .before .before .before .before .write-entry .ensures in
-    λ j. write-pages (a .id) (a .bytes .now) (a .state) (a .image .now) (a .store .now) (omega arith) j (omega arith) _ k (omega arith) _ _ _ (w .0) (w .1) refl _ _ _ (c .moved2 .ensures) (omega arith) (omega arith)
+    λ j. write-pages (a .id) (a .bytes .now) (a .state) (a .image .now) (a .store .now) (above (c .before .before .before .before .before .before .before .before .before .before .before .before)) j (omega arith) _ k (omega arith) _ _ _ (w .0) (w .1) refl _ _ _ (c .moved2 .ensures) (omega arith) (omega arith)
 
 pub write-in-turn-spec : {M : Type 1} → statement M
 write-in-turn-spec =
     tie.close
     (tie.spec
+    sub-room
     returns
     moved-requires
     returns-2
     pages-for-data-requires
-    sub-if3
     returns-3
     sub-write-entry
     part-write-entry-start
