@@ -1,5 +1,7 @@
 -- `look_numbers` meets its contract. Assumes nothing.
+use native.Mathlib.Omega.{arith}
 use borrow.Author.Needs.{needs}
+use Rattle.awirbesh.proofs.Numbers.{found-is}
 use Rattle.awirbesh.proofs.reading.look_numbers.Statement.{statement}
 use Rattle.awirbesh.proofs.reading.look_numbers.Tie as tie
 
@@ -19,7 +21,7 @@ value-requires : tie.Need-value-requires
 value-requires c κs = search needs
 
 returns : tie.Need-returns
-returns c = rw (c .before .look .given .1)
+returns c = rw (c .before .look .given .1) (found-is _ _ _ (omega arith))
 
 returns-2 : tie.Need-returns-2
 returns-2 c = rw (c .before .look2 .given .1)

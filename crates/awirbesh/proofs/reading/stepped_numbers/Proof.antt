@@ -1,5 +1,7 @@
 -- `stepped_numbers` meets its contract. Assumes nothing.
+use native.Mathlib.Omega.{arith}
 use borrow.Author.Needs.{needs}
+use Rattle.awirbesh.proofs.Numbers.{cursor-is}
 use Rattle.awirbesh.proofs.reading.stepped_numbers.Statement.{statement}
 use Rattle.awirbesh.proofs.reading.stepped_numbers.Tie as tie
 
@@ -25,7 +27,7 @@ returns-2 : tie.Need-returns-2
 returns-2 c = rw (c .before .stepped2 .given .1)
 
 returns-3 : tie.Need-returns-3
-returns-3 c = rw (c .before .before .before .stepped3 .given .1, c .before .number .ensures, c .value .ensures)
+returns-3 c = rw (c .before .before .before .stepped3 .given .1, c .before .number .ensures, c .value .ensures) (cursor-is _ _ _ _ (omega arith))
 
 pub stepped-numbers-spec : {M : Type 1} → statement M
 stepped-numbers-spec =

@@ -1,8 +1,10 @@
 -- `awirbesh_sequence_complete` meets its contract. Assumes nothing.
 use mathlib.Core.Path.{_≡_, sym, ap, _∙_}
+use native.Mathlib.Omega.{arith}
 use borrow.Author.Needs.{needs}
 use Rattle.sequence.specs.Sequence.{completeOf}
-use Rattle.awirbesh.specs.Sequence.{sequenceFrom, yesNumber}
+use Rattle.awirbesh.specs.Sequence.{sequenceFrom}
+use Rattle.awirbesh.proofs.Numbers.{yes-is}
 use Rattle.awirbesh.proofs.sequences.awirbesh_sequence_complete.Statement.{statement}
 use Rattle.awirbesh.proofs.sequences.awirbesh_sequence_complete.Tie as tie
 
@@ -17,10 +19,10 @@ complete-requires : tie.Need-complete-requires
 complete-requires c κs = search needs
 
 returns : tie.Need-returns
-returns c = sym (ap yesNumber (same (c .before) ∙ c .if1 .taken))
+returns c = yes-is _ _ _ (same (c .before) ∙ c .if1 .taken) (omega arith)
 
 returns-2 : tie.Need-returns-2
-returns-2 c = sym (ap yesNumber (same (c .before) ∙ c .if1 .left))
+returns-2 c = yes-is _ _ _ (same (c .before) ∙ c .if1 .left) (omega arith)
 
 pub awirbesh-sequence-complete-spec : {M : Type 1} → statement M
 awirbesh-sequence-complete-spec =

@@ -1,0 +1,59 @@
+-- What stands in an answer's numbers, each with the equation that it has to meet. Assumes nothing.
+use Prim.Native.Nat.{ℕ}
+use mathlib.Core.Path.{_≡_}
+use mathlib.Core.Bool.{Bool}
+use borrow.Author.Tests.{eq-eqb, ne-eqb}
+use Rattle.log.specs.Lookup.{found}
+use Rattle.scanning.specs.Step.{refused as unstepped}
+use Rattle.scanning.specs.declared.End.{End}
+use Rattle.scanning.specs.declared.End.the-variants.{Excluded}
+use Rattle.pushing.specs.Push.{paperReason, paperPushed}
+use Rattle.pushing.specs.declared.Pushed.{Pushed}
+use Rattle.awirbesh.specs.State.{stateNumbers}
+use Rattle.awirbesh.specs.Read.{endFrom, lookNumbers, steppedNumbers}
+use Rattle.awirbesh.specs.Push.{reasonNumber, pushedNumbers}
+use Rattle.awirbesh.specs.Sequence.{yesNumber}
+use Rattle.awirbesh.specs.declared.state.StateNumbers.{StateNumbers}
+use Rattle.awirbesh.specs.declared.state.TakenNumbers.{TakenNumbers}
+use Rattle.awirbesh.specs.declared.reading.EndNumbers.{EndNumbers}
+use Rattle.awirbesh.specs.declared.reading.LookNumbers.{LookNumbers}
+use Rattle.awirbesh.specs.declared.reading.SteppedNumbers.{SteppedNumbers}
+use Rattle.awirbesh.specs.declared.writing.PushedNumbers.{PushedNumbers}
+
+abbrev looked : ℕ → ℕ → ℕ → LookNumbers
+looked flag position len = record { number = 0; value = 0; found = flag; position = position; length = len }
+
+pub found-is : (flag position len : ℕ) → flag ≡ 1 → looked flag position len ≡ lookNumbers (found position len)
+found-is flag position len e = rw e
+
+abbrev unstepping : ℕ → ℕ → ℕ → SteppedNumbers
+unstepping number value cursor = record { number = number; value = value; kind = 0; id = 0; length = 0; cursor = cursor }
+
+pub cursor-is : (given number value cursor : ℕ) → cursor ≡ given → unstepping number value cursor ≡ steppedNumbers given (unstepped number value)
+cursor-is given number value cursor e = rw e
+
+abbrev numbersOf : ℕ → ℕ → ℕ → StateNumbers
+numbersOf n last next = record { length = n; last = last; next = next }
+
+abbrev untaken : ℕ → StateNumbers → TakenNumbers
+untaken number st = record { number = number; id = 0; state = st }
+
+by-numbers : (n n′ last last′ next next′ : ℕ) → n ≡ n′ → last ≡ last′ → next ≡ next′ → numbersOf n last next ≡ numbersOf n′ last′ next′
+by-numbers n n′ last last′ next next′ a b c = rw (a, b, c)
+
+pub state-is : (given st : StateNumbers) (number : ℕ) → st .length ≡ given .length → st .last ≡ given .last → st .next ≡ given .next → untaken number st ≡ untaken number given
+state-is given st number a b c = let e : st ≡ given = by-numbers _ _ _ _ _ _ a b c in rw e
+
+abbrev pushedBy : ℕ → ℕ → StateNumbers → PushedNumbers
+pushedBy number written st = record { number = number; written = written; state = st }
+
+pub reason-is : (pushed : Pushed) (number : ℕ) → number ≡ reasonNumber (paperReason (pushed .reason))
+    → pushedBy number (pushed .written) (stateNumbers (pushed .state)) ≡ pushedNumbers (paperPushed pushed)
+reason-is pushed number e = rw e
+
+pub yes-is : (answer : Bool) (given : Bool) (number : ℕ) → answer ≡ given → number ≡ yesNumber given → number ≡ yesNumber answer
+yes-is answer given number a e = rw a e
+
+-- kind 2
+pub excluded-is : (numbers : EndNumbers) → (numbers .kind ≡ 1 → ⊥) → numbers .kind ≡ 2 → (end : End) → end ≡ Excluded (numbers .id) → end ≡ endFrom numbers
+excluded-is numbers a b end e = rw (e, ne-eqb (numbers .kind) 1 a, eq-eqb (numbers .kind) 2 b)
