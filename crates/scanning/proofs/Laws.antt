@@ -1,3 +1,4 @@
+pub mod Ends
 pub mod Start
 pub mod Forward
 pub mod Handing

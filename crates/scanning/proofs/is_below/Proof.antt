@@ -1,4 +1,5 @@
 -- `is_below` meets its contract. Assumes nothing.
+use Rattle.scanning.proofs.Laws.Ends.{below-excluded}
 use Rattle.scanning.proofs.is_below.Statement.{statement}
 use Rattle.scanning.proofs.is_below.Tie as tie
 
@@ -18,7 +19,7 @@ returns-2 : tie.Need-returns-2
 returns-2 c = rw (c .before .upper .given .1)
 
 returns-3 : tie.Need-returns-3
-returns-3 c = rw (c .before .upper2 .given .1)
+returns-3 c = below-excluded _ (c .before .before .before .args .id) _ (c .before .upper2 .given .1)
 
 pub is-below-spec : {M : Type 1} → statement M
 is-below-spec =
