@@ -2,7 +2,7 @@
  *
  * Link with target/staticlib/libawirbesh.a (`rt staticlib awirbesh` makes it; x86-64).
  * This file and host/src/ffi.rs state the same interface; a test on each side calls every function. What each call
- * does is said in full by docs/RULES.md, whose headings are named here as "rules 4".
+ * does is said in full by docs/RULES.md, whose sections are cited here by number, as "rules 4".
  *
  * WHO OWNS WHAT. The library owns nothing: it allocates nothing, keeps no pointer after a call returns, has no
  * global state, does no input or output and never stops the program. The caller lends the store, the batch,
@@ -42,7 +42,7 @@
  *   12 outside window   an id noted 4,096 or more above it, or 2^64-1
  *   13 bad batch        not as many ids as ends, an end below the one before, or an end beyond the data
  *   14 overlap          awirbesh_check only: a start inside an entry
- *   15 not ascending    awirbesh_check only: an id that is not above the one before
+ *   15 not ascending    awirbesh_check only: an id that is not above the one before, or is 0
  *   16 value too large  some data of a batch is longer than 16,777,208 bytes
  */
 #ifndef AWIRBESH_H

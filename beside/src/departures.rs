@@ -1,4 +1,4 @@
-//! Why the Rust departs: each departure is an entry of docs/DIFFERENCES.md, told by its cause and not by the answer alone.
+//! Why the Rust departs: each departure is an entry of docs/DIFFERENCES.md, told by its cause, not its answer alone.
 use nebari::transaction::log::probe::guess;
 
 use crate::{rust::caught, Held, Looked, Pair, PAGE};

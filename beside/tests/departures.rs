@@ -210,7 +210,7 @@ fn bytes_past_the_length() {
 
 /// docs/DIFFERENCES.md has an entry for each departure.
 #[test]
-fn each_rule_names_an_entry() {
+fn each_departure_names_an_entry() {
     let text = include_str!("../../docs/DIFFERENCES.md");
     for departure in Departure::ALL {
         let heading = format!("### {}", departure.heading());
@@ -218,7 +218,7 @@ fn each_rule_names_an_entry() {
     }
 }
 
-/// The filling departure is the Rust's: a shorter entry keeps bytes of the longer one before it in the batch.
+/// The filling (docs/RULES.md 1.8) is the Rust's: a shorter entry keeps bytes of the longer one before it in the batch.
 #[test]
 fn stale_bytes_are_the_same() {
     let mut pair = Pair::with_capacity(8);

@@ -21,7 +21,7 @@ impl IdSequence {
         Refusal::test(noted.number, 0)
     }
 
-    /// Whether no id from the first start to the highest noted is missing, as before any note.
+    /// Whether no id from the first start to the highest noted is missing, so also before any note.
     pub fn complete(&self) -> bool {
         unsafe { ffi::awirbesh_sequence_complete(self.sequence) != 0 }
     }

@@ -432,7 +432,7 @@ static void try_large_push(awirbesh_state state)
     count(PUSH, got.number);
 }
 
-/* The ids from the first start on that have been noted, and what the rules make of them: a second model, with no words. */
+/* The ids from the first start on that were noted, and what the rules make of them: a second model, without words. */
 enum { NOTED = 20000 };
 static uint8_t noted[NOTED];
 

@@ -20,30 +20,34 @@ use Rattle.awirbesh.specs.declared.reading.LookNumbers.{LookNumbers}
 use Rattle.awirbesh.specs.declared.reading.SteppedNumbers.{SteppedNumbers}
 use Rattle.awirbesh.specs.declared.writing.PushedNumbers.{PushedNumbers}
 
+-- found is 1 for what was found
 abbrev looked : ℕ → ℕ → ℕ → LookNumbers
 looked flag position len = record { number = 0; value = 0; found = flag; position = position; length = len }
 
 pub found-is : (flag position len : ℕ) → flag ≡ 1 → looked flag position len ≡ lookNumbers (found position len)
 found-is flag position len e = rw e
 
+-- a refused step has the cursor given
 abbrev unstepping : ℕ → ℕ → ℕ → SteppedNumbers
 unstepping number value cursor = record { number = number; value = value; kind = 0; id = 0; length = 0; cursor = cursor }
 
 pub cursor-is : (given number value cursor : ℕ) → cursor ≡ given → unstepping number value cursor ≡ steppedNumbers given (unstepped number value)
 cursor-is given number value cursor e = rw e
 
+-- a refused take has the state given
 abbrev numbersOf : ℕ → ℕ → ℕ → StateNumbers
 numbersOf n last next = record { length = n; last = last; next = next }
 
-abbrev untaken : ℕ → StateNumbers → TakenNumbers
-untaken number st = record { number = number; id = 0; state = st }
+abbrev takeRefused : ℕ → StateNumbers → TakenNumbers
+takeRefused number st = record { number = number; id = 0; state = st }
 
 by-numbers : (n n′ last last′ next next′ : ℕ) → n ≡ n′ → last ≡ last′ → next ≡ next′ → numbersOf n last next ≡ numbersOf n′ last′ next′
 by-numbers n n′ last last′ next next′ a b c = rw (a, b, c)
 
-pub state-is : (given st : StateNumbers) (number : ℕ) → st .length ≡ given .length → st .last ≡ given .last → st .next ≡ given .next → untaken number st ≡ untaken number given
+pub state-is : (given st : StateNumbers) (number : ℕ) → st .length ≡ given .length → st .last ≡ given .last → st .next ≡ given .next → takeRefused number st ≡ takeRefused number given
 state-is given st number a b c = let e : st ≡ given = by-numbers _ _ _ _ _ _ a b c in rw e
 
+-- a push has the number of its reason
 abbrev pushedBy : ℕ → ℕ → StateNumbers → PushedNumbers
 pushedBy number written st = record { number = number; written = written; state = st }
 
@@ -51,9 +55,10 @@ pub reason-is : (pushed : Pushed) (number : ℕ) → number ≡ reasonNumber (pa
     → pushedBy number (pushed .written) (stateNumbers (pushed .state)) ≡ pushedNumbers (paperPushed pushed)
 reason-is pushed number e = rw e
 
+-- 1 for yes
 pub yes-is : (answer : Bool) (given : Bool) (number : ℕ) → answer ≡ given → number ≡ yesNumber given → number ≡ yesNumber answer
 yes-is answer given number a e = rw a e
 
--- kind 2
+-- kind 2 is excluded
 pub excluded-is : (numbers : EndNumbers) → (numbers .kind ≡ 1 → ⊥) → numbers .kind ≡ 2 → (end : End) → end ≡ Excluded (numbers .id) → end ≡ endFrom numbers
 excluded-is numbers a b end e = rw (e, ne-eqb (numbers .kind) 1 a, eq-eqb (numbers .kind) 2 b)

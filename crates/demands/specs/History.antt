@@ -106,7 +106,7 @@ said w (c ∷ cs) = record { call = c; reply = answer w c } ∷ said (step w c) 
 
 -- ---- where a history begins
 
--- a sound log and the state that its recovery gives: a store of which n bytes are a sound log and an excess
+-- a sound log and the state that its recovery gives: a store of which so many bytes are a sound log and an excess
 pub record Begun (w : World) : Type 0 where
   pub size : ℕ
   pub sound : Sound (cutLog (w .store) size)

@@ -64,7 +64,7 @@ Placed log id (refused number value) = Unit {0}
 
 -- ---- any guess
 
--- 11.5 "whatever page of its window each round guesses": the rounds from a window on
+-- 11.5 "Whatever pages of their windows the rounds guess": the rounds from a window on
 pub data AnyGuess (log : List ℕ) (id : ℕ) : Window → Looking → Type 0 where
   emptied : (w : Window) → w .hi ≤ w .lo → AnyGuess log id w (absent (w .hi * pageSize))
   stops : (w : Window) (g : ℕ) (r : Looking) → w .lo ≤ g → g < w .hi → roundFrom log id w g ≡ stop r → AnyGuess log id w r

@@ -1,4 +1,4 @@
--- No two results satisfy one promise: each definition of the paper's answer tells every two answers of the code apart, and so do the promises, a line for each public function. Assumes nothing.
+-- No two results satisfy one promise: each definition of the rules' answer tells every two answers of the code apart, and so do the promises, a line for each public function. Assumes nothing.
 use Prim.Native.Nat.{ℕ}
 use mathlib.Core.Path.{_≡_, refl, sym, ap, _∙_}
 use mathlib.Core.Bool.{Bool}
@@ -21,7 +21,7 @@ use Rattle.log.specs.declared.checking.Checked.the-variants.{Sound, Refu
 use Rattle.log.specs.declared.searching.Look.{Look}
 use Rattle.log.specs.declared.searching.Look.the-variants.{Found, Absent, Refused as Unfound}
 
--- ---- the paper's answers tell the code's apart
+-- ---- the rules' answers tell the code's apart
 
 pub taken-unique : (r s : Taken) → paperTaken r ≡ paperTaken s → r ≡ s
 taken-unique (Id id st) (Id id′ st′) e = cc

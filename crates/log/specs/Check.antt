@@ -18,7 +18,7 @@ pub data Checking : Type 0 where
   sound : Checking
   refused : (number value : ℕ) → Checking
 
--- the paper's answer for each case of the code's
+-- the rules' answer for each case of the code's
 abbrev pub paperChecked : Checked → Checking
 paperChecked Sound = sound
 paperChecked (Refused r) = refused (numberOf r) (valueOf r)

@@ -22,7 +22,7 @@ pub data Looking : Type 0 where
   absent : (position : ℕ) → Looking
   refused : (number value : ℕ) → Looking
 
--- the paper's answer for each case of the code's
+-- the rules' answer for each case of the code's
 abbrev pub paperLook : Look → Looking
 paperLook (Found position len) = found position len
 paperLook (Absent position) = absent position

@@ -19,7 +19,7 @@ pub data Recovering : Type 0 where
   recovered : (state : State) (excess : ℕ) → Recovering
   refused : (number value : ℕ) → Recovering
 
--- the paper's answer for each case of the code's
+-- the rules' answer for each case of the code's
 abbrev pub paperRecovered : Recovered → Recovering
 paperRecovered (At state excess) = recovered state excess
 paperRecovered (Refused r) = refused (numberOf r) (valueOf r)

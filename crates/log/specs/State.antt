@@ -36,7 +36,7 @@ pub data Taking : Type 0 where
 unfoldable pub takeOf : State → Taking
 takeOf st = pick (eqb (st .next) topId) (refused 9 0) (taken (st .next) (stateOf (st .length) (st .last) (st .next + 1)))
 
--- the paper's answer for each case of the code's
+-- the rules' answer for each case of the code's
 abbrev pub paperTaken : Taken → Taking
 paperTaken (Id id state) = taken id state
 paperTaken (Refused r) = refused (numberOf r) (valueOf r)

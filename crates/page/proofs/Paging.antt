@@ -14,7 +14,7 @@ pub page-byte : (log : List ℕ) (p k m : ℕ) → k < pageSize → m ≡ p * pa
 unfolding pageAt
 page-byte log p k m h e = rw e (getD-take pageSize (drop (p * pageSize) log) k 0 h ∙ getD-drop (p * pageSize) log k 0)
 
--- byte m of a log, with which page p begins, is its mark
+-- byte m of a log, with which page p begins, is its mark; the bound only shows m to the checker
 pub mark-byte : (log : List ℕ) (p m : ℕ) → m < length log → m ≡ p * pageSize → markAt log p ≡ getD log m 0
 unfolding markAt
 mark-byte log p m within e = page-byte log p 0 m (lit< tt) (omega arith)

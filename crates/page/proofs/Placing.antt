@@ -34,7 +34,7 @@ module _ (i : ℕ) where
   pub place-within : (n : ℕ) → i < n → placeOf i < pagesForData n * pageSize
   place-within n h = omega (arith, place-linear, pages-linear (idSize + n))
 
--- the part from byte a on, where the data begins
+-- the part from byte a on, where the data begins; the bound only shows a to the checker
 pub data-from : (part : List ℕ) (n a : ℕ) → a ≤ length part → a ≡ dataStart → dataFrom (take (length part - a) (drop a part)) n ≡ dataOf part n
 unfolding dataFrom dataOf
 data-from part n a within begins = rw (begins, rest-of dataStart part) (tab-same _ _ n (λ i h.

@@ -1,4 +1,4 @@
--- No two entries read have the same answer on paper. Assumes nothing.
+-- No two entries read have the same answer by the rules. Assumes nothing.
 use mathlib.Core.Path.{_≡_, refl}
 use Prim.Native.Nat.{ℕ}
 use native.Mathlib.Omega.{arith}

@@ -37,7 +37,7 @@ entryAt log s =
     (pick (ltb (pageCount log) (afterAt log s)) (cut (idAt log s))
     (whole (idAt log s) (dataLengthAt log s) (afterAt log s)))
 
--- the paper's answer for each case of the code's
+-- the rules' answer for each case of the code's
 abbrev pub paperEntry : Entry → Starting
 paperEntry Short = short
 paperEntry (Cut id) = cut id

@@ -32,12 +32,12 @@ pub record Pushing : Type 0 where
 abbrev pub pushing : Why → ℕ → State → Pushing
 pushing why n st = record { reason = why; written = n; state = st }
 
--- the paper's reason for each case of the code's
+-- the rules' reason for each case of the code's
 abbrev pub paperReason : Reason → Why
 paperReason None = none
 paperReason (Refused r) = refused (numberOf r) (valueOf r)
 
--- the paper's answer for the code's
+-- the rules' answer for the code's
 abbrev pub paperPushed : Pushed → Pushing
 paperPushed r = pushing (paperReason (r .reason)) (r .written) (r .state)
 

@@ -94,9 +94,10 @@ fn write_in_turn(
     ensures { λ r. ⌜ ((j : ℕ) → paperEntryTurn j (now (image .exit)) (now (store .exit)) r ≡ turn j id (now (bytes .entry)) (point state (now (image .entry)) (now (store .entry)))) ⌝ }
 {
     let at = state.length as usize;
+    // both told before the tests, so that testing room first is an edit of one line: must-fail/room_before_order
     let room = (store.len() - at) / Page::SIZE;
-    let late = id <= state.last;
-    if late {
+    let out_of_order = id <= state.last;
+    if out_of_order {
         return EntryTurn::Refused(Refusal::OutOfOrder, state);
     }
     // 3 and 4 use up the id

@@ -1,4 +1,4 @@
-pub mod Ends
+pub mod Range
 pub mod Start
 pub mod Forward
 pub mod Handing

@@ -1,4 +1,4 @@
--- No two results satisfy one promise: the paper's answers tell the code's apart, and so do the promises, a line for each public function. Assumes nothing.
+-- No two results satisfy one promise: the rules' answers tell the code's apart, and so do the promises, a line for each public function. Assumes nothing.
 use Prim.Native.Nat.{ℕ}
 use mathlib.Core.Path.{_≡_, sym, ap, _∙_}
 use mathlib.Core.List.{List}

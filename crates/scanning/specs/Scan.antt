@@ -17,7 +17,7 @@ pub data Beginning : Type 0 where
   at : (cursor : ℕ) → Beginning
   refused : (number value : ℕ) → Beginning
 
--- the paper's answer for each case of the code's
+-- the rules' answer for each case of the code's
 abbrev pub paperStarted : Started → Beginning
 paperStarted (At cursor) = at cursor
 paperStarted (Refused r) = refused (numberOf r) (valueOf r)

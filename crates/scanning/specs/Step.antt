@@ -24,7 +24,7 @@ pub data Stepping : Type 0 where
   end : (cursor : ℕ) → Stepping
   refused : (number value : ℕ) → Stepping
 
--- the paper's answer for each case of the code's
+-- the rules' answer for each case of the code's
 abbrev pub paperStepped : Stepped → Stepping
 paperStepped (Entry id len cursor) = entry id len cursor
 paperStepped (End cursor) = end cursor

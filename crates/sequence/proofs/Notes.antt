@@ -24,7 +24,7 @@ module _ (s : IdSequence) (words : List ℕ) (id : ℕ) where
     unfolding noteOf
     note-far h = rw (le-ltb id (s .start) from, le-leb 4096 (id - s .start) h)
 
-    -- near or far
+    -- 2^64-1 is refused, near or far
     pub note-last : id ≡ 18446744073709551615 → noteOf s words id ≡ outcome (refused 12 0) words
     unfolding noteOf
     note-last e =

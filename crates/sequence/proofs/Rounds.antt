@@ -83,7 +83,7 @@ pub going : (after from : ℕ) (words : List ℕ) → Going after from words fro
 going after from words = record { fuel = after - from; enough = omega arith; same = refl }
 
 module _ {after from : ℕ} {words₀ : List ℕ} {start : ℕ} {words : List ℕ} (g : Going after from words₀ start words) where
-  -- the word that was looked at is the first
+  -- the word that was looked at is the first; the bound only shows i to the checker
   pub first-word : {t : Bool} (i : ℕ) → i < 64 → i ≡ 0 → allNoted (getD words i 0) (next after start) ≡ t → allNoted (getD words 0 0) (next after start) ≡ t
   first-word i inside e h = rw e at h
 

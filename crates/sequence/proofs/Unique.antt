@@ -10,7 +10,7 @@ use Rattle.sequence.specs.declared.IdSequence.{IdSequence}
 use Rattle.sequence.specs.declared.Noted.{Noted}
 use Rattle.sequence.specs.declared.Noted.the-variants.{At, Refused}
 
--- the paper's answer tells a result from every other
+-- the rules' answer tells a result from every other
 pub paper-unique : (r s : Noted) → paperNoted r ≡ paperNoted s → r ≡ s
 paper-unique (At a) (At b) e = ap At (same-sequence (cc) (cc))
   where

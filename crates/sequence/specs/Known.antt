@@ -5,7 +5,7 @@ use mathlib.Core.Logic.{_⊎_}
 use mathlib.Core.List.{List}
 use Rattle.sequence.specs.Window.{bitAt}
 
--- start has passed the id; or it is one from start to the highest, and its bit is set
+-- 10.6 "An id below start counts as noted"; else one below after whose bit is set
 abbrev pub Known : ℕ → ℕ → List ℕ → ℕ → Type 0
 Known after start words id =
     (id < start) ⊎ ((start ≤ id) × (id < after) × (bitAt words (id - start) ≡ 1))

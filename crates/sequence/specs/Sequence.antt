@@ -12,12 +12,12 @@ use Rattle.sequence.specs.declared.IdSequence.{IdSequence}
 use Rattle.sequence.specs.declared.Noted.{Noted}
 use Rattle.sequence.specs.declared.Noted.the-variants.{At, Refused}
 
--- the paper's answers to a note: the sequence after it, or a refusal's number and what it names
+-- the rules' answers to a note: the sequence after it, or a refusal's number and what it names
 pub data Noting : Type 0 where
   noted : (start after : ℕ) → Noting
   refused : (number value : ℕ) → Noting
 
--- the paper's answer for each case of the code's
+-- the rules' answer for each case of the code's
 abbrev pub paperNoted : Noted → Noting
 paperNoted (At s) = noted (s .start) (s .after)
 paperNoted (Refused r) = refused (numberOf r) (valueOf r)
@@ -77,7 +77,7 @@ pub record Outcome : Type 0 where
 abbrev pub outcome : Noting → List ℕ → Outcome
 outcome answer words = record { answer = answer; words = words }
 
--- the answer once start has truncated
+-- the answer once start has moved
 abbrev pub afterMove : ℕ → Truncated → Outcome
 afterMove after m = outcome (noted (m .start) after) (m .words)
 

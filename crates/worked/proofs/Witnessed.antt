@@ -1,15 +1,18 @@
--- Witnesses: what the theorems of demands ask for can be had, and what they then say. Assumes nothing.
---   checked-sound, lookup-right, scan-right   a sound log of two entries with an idle page between: store-is-sound, three-looked-up, all-scanned
---   settled, begun-settled                    its recovered state, from which 3 stays found and 2 absent: three-stays-found, two-stays-absent, three-was-given
---   push-right, read-back                     two ids taken and the second one pushed: five-is-held, five-reads-back, five-stays-read
---   any-guess-right                           guesses that are not the rule's: other-guesses
---   recover-right, recover-alike              a length with an excess, and a log that differs before its last entry: excess-recovers, recovers-alike
+-- Witnesses: what the theorems ask for can be had, and what they then say. Assumes nothing.
+--   checked-sound                             the empty log, and a sound log of two entries with an idle page between: empty-is-sound, store-is-sound
+--   lookup-right, scan-right, reached-inside  of that log: three-looked-up, all-scanned, first-reached
+--   any-guess-right                           by guesses that are not the rule's: other-guesses, other-guesses-right
+--   refused-lookup-keeps, refused-step-keeps  in a state that is refused 1: lookup-kept, step-kept
+--   settled, begun-settled                    from its recovered state, 3 stays found and 2 absent: three-stays-found, two-stays-absent, three-was-given
+--   push-right, push-whole                    5 is pushed: five-is-held, all-written
+--   read-back                                 two ids are taken, and the second, 5, is pushed: five-reads-back, five-stays-read
+--   recover-right, recover-alike              a length with an excess; a log that differs before its last entry: excess-recovers, recovers-alike
+--   complete-right, note-adds                 over words that are not zero: notes-right, three-added
 --   data-one-part                             the data of an entry of one page: five-bytes
--- and examples of what is not promised, 12.1 to 12.3: flipped-is-sound, dropped-comes-again, fault-unseen;
--- and that the theorems' conditions are needed: stored-and-missed (a sound log), made-up-last (a last written at or above its last id)
 use Prim.Native.Nat.{ℕ, zero, suc, _≤_, _<_}
 use mathlib.Core.Path.{_≡_, refl}
-use mathlib.Core.Logic.{_⊎_, inl, inr, ⊎-elim}
+use mathlib.Core.Bool.{true}
+use mathlib.Core.Logic.{_⊎_, _↔_, inl, inr, ⊎-elim}
 use mathlib.Core.List.{List, [], _∷_, _++_, List·Memᴰ·head}
 use native.Mathlib.Omega.{arith}
 use lib.Dec.{lit<, lit≤}
@@ -24,26 +27,38 @@ use Rattle.log.specs.Round.{stop, again}
 use Rattle.log.specs.Bounds.{tooLong, badState, Fits}
 use Rattle.log.specs.State.{stateOf, takeOf}
 use Rattle.demands.specs.Sound.{Start, SoundStore, Last}
-use Rattle.demands.specs.Push.{RightPush}
+use Rattle.demands.specs.Push.{logAfter, Holds}
 use Rattle.demands.specs.Recovery.{RightRecovery}
-use Rattle.demands.specs.Lookup.{present, missing, Room, RightLookup, AnyGuess, stops, narrows}
+use Rattle.demands.specs.Lookup.{present, missing, RightStanding, Room, RightLookup, AnyGuess, stops, narrows}
 use Rattle.demands.specs.Scan.{Enough, Scans}
 use Rattle.log.specs.Guess.{leastFrom, leastShift, offsetOf}
-use Rattle.log.specs.Lookup.{found, absent, roundFrom, window, allPages, compared, sayingAt, turned, walk, search, searchOf, findOf, lookupOf}
-use Rattle.log.specs.Check.{refused, laterMarks, checkStart, checkPage, checkEnd, checkFrom, checkOf}
+use Rattle.log.specs.Lookup.{found, roundFrom, window, allPages, compared, sayingAt, turned, walk, search, searchOf, findOf, handFound, lookupOf}
+use Rattle.log.specs.Check.{laterMarks, checkStart, checkPage, checkEnd, checkFrom, checkOf}
 use Rattle.log.specs.Recovery.{cutLog, atLast, walkBack, recoverLog, recoverOf}
 use Rattle.pushing.specs.Push.{entryData, some, badEnd, badBatch, largeData, someLarge, wrote, writing, turn, entriesFrom, pushOf}
+use Rattle.scanning.specs.Range.{holdsOf}
 use Rattle.scanning.specs.Scan.{scanOf}
+use Rattle.scanning.specs.Step.{stepStart, stepPage, forward, forwardFrom, stepOf}
 use Rattle.scanning.specs.declared.Range.{Range}
 use Rattle.scanning.specs.declared.End.the-variants.{Open}
-use Rattle.demands.specs.History.{World, world, logOf, Words, Call, push, take-id, find, lookup, recover, answer, step, run, said, Begun, Settled, LooksUp, Gives, Answers, ReadsBack}
+use Rattle.demands.specs.History.{World, world, logOf, Words, Call, push, take-id, find, lookup, answer, step, run, said, Begun, Settled, LooksUp, Gives, Answers, ReadsBack}
 use Rattle.page.proofs.Runs.{data-one-part}
 use Rattle.demands.proofs.Check.Passing.{checked-sound}
-use Rattle.demands.proofs.Push.Batch.{push-right}
+use Rattle.demands.proofs.Push.Batch.{push-right, push-whole}
 use Rattle.demands.proofs.Recovery.Resuming.{recover-right, recover-alike}
 use Rattle.demands.proofs.History.Lasting.{standingData}
+use Rattle.demands.proofs.Lookup.AnyGuess.{any-guess-right}
 use Rattle.demands.proofs.Lookup.Right.{lookup-right}
+use Rattle.demands.proofs.Lookup.Refusing.{refused-lookup-keeps}
 use Rattle.demands.proofs.Scan.Right.{scan-right}
+use Rattle.demands.proofs.Scan.Inside.{reached-inside}
+use Rattle.demands.proofs.Scan.Refusing.{refused-step-keeps}
+use Rattle.sequence.specs.Window.{only, shifted}
+use Rattle.sequence.specs.Sequence.{newOf, rounds, noteOf}
+use Rattle.sequence.specs.Known.{Known}
+use Rattle.sequence.specs.History.{begun, RightSequence, run as run-notes}
+use Rattle.sequence.proofs.Adds.{note-adds}
+use Rattle.sequence.proofs.Complete.{complete-right}
 use Rattle.demands.proofs.History.Demands.{begun-lives, begun-settled, settled, read-back}
 use Rattle.worked.proofs.Listed.{ninePage}
 
@@ -56,8 +71,12 @@ abbrev twoPages : List ℕ
 twoPages = replicate 1013 9
 
 -- and two pages of room
-abbrev store : List ℕ
+abbrev pub store : List ℕ
 store = entryPages blank 1 oneByte ++ (replicate 1024 0 ++ (entryPages blank 3 twoPages ++ replicate 2048 0))
+
+pub empty-is-sound : SoundStore [] 0
+unfolding tooLong checkEnd checkFrom checkOf
+empty-is-sound = checked-sound [] 0 .0 refl
 
 pub store-is-sound : SoundStore store 4096
 unfolding pagesFor pageAt numberAt bytesOf markAt lengthAt idAt entryAt blank firstPage laterPage laterPages entryPages tooLong laterMarks checkStart checkPage checkEnd checkFrom checkOf
@@ -65,7 +84,7 @@ store-is-sound = checked-sound store 4096 .0 refl
 
 -- ---- its recovered state
 
-abbrev begins : World
+abbrev pub begins : World
 begins = world store (stateOf 4096 3 4)
 
 begins-there : Begun begins
@@ -104,7 +123,7 @@ pub two-stays-absent : (later : List Call) (out : List ℕ) → LooksUp (answer 
 unfolding pagesFor pageAt numberAt bytesOf markAt lengthAt idAt entryAt blank firstPage laterPage laterPages entryPages tooLong badState leastFrom leastShift offsetOf compared sayingAt turned walk search searchOf findOf standingData settled run
 two-stays-absent later out = settled begins begins-there [] 2 (settled-there 2 (lit≤ tt) (lit≤ tt)) .kept later .answers (lookup 2 out) refl (omega arith)
 
--- a lookup and a search that are among the later calls gave it
+-- a find that is among the later calls gave it
 pub three-was-given : Gives (find 3) (answer begins (find 3)) 3 (present 2048 1013) (replicate 1013 9)
 unfolding pagesFor pageAt numberAt bytesOf markAt lengthAt idAt entryAt placeOf dataOf dataAt blank firstPage laterPage laterPages entryPages tooLong badState leastFrom leastShift offsetOf compared sayingAt turned walk search searchOf findOf standingData settled run said
 three-was-given = settled begins begins-there [] 3 (settled-there 3 (lit≤ tt) (lit≤ tt)) .gave (find 3 ∷ []) (record { call = find 3; reply = answer begins (find 3) }) (List·Memᴰ·head refl)
@@ -128,10 +147,24 @@ all-fit : Enough (logOf begins) every 1013
 unfolding pagesFor pageAt numberAt bytesOf markAt lengthAt blank firstPage laterPage laterPages entryPages
 all-fit p start inside = ⊎-elim (λ e. rw e (lit≤ tt)) (λ e. rw e (lit≤ tt)) (starts-there p start)
 
+pub first-reached : holdsOf every (idAt (logOf begins) 0) ≡ true
+unfolding pagesFor pageAt numberAt bytesOf markAt lengthAt idAt entryAt blank firstPage laterPage laterPages entryPages holdsOf stepStart stepPage forward forwardFrom
+first-reached = reached-inside (logOf begins) every 0 0 1 1 1 refl
+
 pub all-scanned : Scans store (begins .state) every 1013 (scanOf store (begins .state) every)
 all-scanned = scan-right store (begins .state) every 1013 store-is-sound all-fit
 
--- ---- two ids are taken, and the second, 5, is pushed with a byte: it reads back through any later calls
+-- ---- a length that is no multiple of 1,024: the lookup and the step are refused, and leave the output
+
+pub lookup-kept : (out : List ℕ) → lookupOf store (stateOf 1 0 1) 1 out .out ≡ out
+unfolding bytesOf pagesFor blank firstPage laterPage laterPages entryPages tooLong badState findOf handFound lookupOf
+lookup-kept out = refused-lookup-keeps store (stateOf 1 0 1) 1 out 1 0 refl
+
+pub step-kept : (out : List ℕ) → stepOf store (stateOf 1 0 1) every 0 out .out ≡ out
+unfolding bytesOf pagesFor blank firstPage laterPage laterPages entryPages tooLong badState stepOf
+step-kept out = refused-step-keeps store (stateOf 1 0 1) every 0 out 1 0 refl
+
+-- ---- 5 is pushed with a byte: from the recovered state, and once two ids are taken, when it reads back through any later calls
 
 abbrev takes : List Call
 takes = take-id ∷ take-id ∷ []
@@ -143,8 +176,13 @@ one-word (suc k) = lit< tt
 abbrev pushes-five : Call
 pushes-five = push (5 ∷ []) (1 ∷ []) (8 ∷ []) one-word
 
-pub five-is-held : RightPush (5 ∷ []) (1 ∷ []) (8 ∷ []) (pushOf store (begins .state) (5 ∷ []) (1 ∷ []) (8 ∷ []))
-five-is-held = push-right (5 ∷ []) (1 ∷ []) (8 ∷ []) one-word store (begins .state) (begun-lives begins begins-there)
+pub five-is-held : Holds (logAfter (pushOf store (begins .state) (5 ∷ []) (1 ∷ []) (8 ∷ []))) 5 (8 ∷ [])
+unfolding pagesFor pageAt bytesOf blank firstPage laterPage laterPages laterImage entryPages entryImage tooLong badState entryData some badEnd badBatch largeData someLarge wrote writing turn entriesFrom pushOf
+five-is-held = push-right (5 ∷ []) (1 ∷ []) (8 ∷ []) one-word store (begins .state) (begun-lives begins begins-there) .held 0 (lit< tt)
+
+pub all-written : pushOf store (begins .state) (5 ∷ []) (1 ∷ []) (8 ∷ []) .answer .written ≡ 1
+unfolding pagesFor pageAt bytesOf blank firstPage laterPage laterPages laterImage entryPages entryImage tooLong badState entryData some badEnd badBatch largeData someLarge wrote writing turn entriesFrom pushOf
+all-written = push-whole (5 ∷ []) (1 ∷ []) (8 ∷ []) store (begins .state) refl
 
 abbrev pushed-five : World
 pushed-five = step (run begins takes) pushes-five
@@ -184,7 +222,10 @@ some-pages = lit< tt
 pub other-guesses : AnyGuess (logOf begins) 3 (allPages (logOf begins) 4) (found 2048 1013)
 other-guesses = narrows (allPages (logOf begins) 4) (window 1 4 1 4) 0 (found 2048 1013) (omega arith) some-pages first-round (stops (window 1 4 1 4) 3 (found 2048 1013) (lit≤ tt) (lit< tt) second-round)
 
--- ---- a length with an excess: 1,030 bytes of which page 0 holds id 9 lie inside `recover-right`
+pub other-guesses-right : RightStanding (logOf begins) 3 (present 2048 1013)
+other-guesses-right = any-guess-right (logOf begins) (store-is-sound .sound) 3 4 other-guesses
+
+-- ---- a length with an excess: 1,030 bytes, of which page 0 holds id 9
 
 nine-sound : SoundStore ninePage 1024
 unfolding pagesFor pageAt numberAt bytesOf markAt lengthAt idAt entryAt blank firstPage laterPage laterPages entryPages tooLong laterMarks checkStart checkPage checkEnd checkFrom checkOf
@@ -199,7 +240,7 @@ excess-recovers = recover-right ninePage 1030 nine-fits (nine-sound .sound)
 
 -- ---- a log whose first entry has another byte recovers alike: it agrees from page 2 on, where the last entry starts
 
-abbrev other : List ℕ
+abbrev pub other : List ℕ
 other = entryPages blank 1 (6 ∷ []) ++ drop 1024 store
 
 fits-there : Fits other 4096
@@ -213,35 +254,20 @@ same-from-there = refl
 pub recovers-alike : recoverOf store 4096 ≡ recoverOf other 4096
 recovers-alike = recover-alike store other 4096 2 (store-is-sound .fits) fits-there (last-there .start) same-from-there
 
--- ---- what is not promised
-
--- 12.1: a log with another data byte is as sound
-pub flipped-is-sound : SoundStore other 4096
-unfolding pagesFor pageAt numberAt bytesOf markAt lengthAt idAt entryAt blank firstPage laterPage laterPages entryPages tooLong laterMarks checkStart checkPage checkEnd checkFrom checkOf
-flipped-is-sound = checked-sound other 4096 .0 refl
-
--- 12.2: an id that was taken and never pushed comes again after a restart
-pub dropped-comes-again : run begins (take-id ∷ recover ∷ take-id ∷ []) ≡ run begins (take-id ∷ [])
-unfolding pagesFor pageAt numberAt bytesOf markAt lengthAt idAt entryAt blank firstPage laterPage laterPages entryPages tooLong takeOf atLast walkBack recoverLog recoverOf answer step run
-dropped-comes-again = refl
-
--- 12.3: a bad mark on the idle page, which no recovery reads
-pub fault-unseen : recoverOf (take 1024 store ++ (7 ∷ drop 1025 store)) 4096 ≡ recoverOf store 4096
-unfolding pagesFor pageAt numberAt bytesOf markAt lengthAt idAt entryAt blank firstPage laterPage laterPages entryPages tooLong atLast walkBack recoverLog recoverOf
-fault-unseen = refl
-
--- 12.3: in a log that is not sound, with 5 before 3, a stored id is missed
-pub stored-and-missed : findOf (entryPages blank 5 [] ++ entryPages blank 3 []) (stateOf 2048 5 6) 5 ≡ absent 2048
-unfolding pagesFor pageAt numberAt bytesOf markAt lengthAt idAt entryAt blank firstPage laterPage laterPages entryPages tooLong badState leastFrom leastShift offsetOf compared sayingAt turned walk search searchOf findOf
-stored-and-missed = refl
-
--- 11.7: by a state that was made up, with a last written below the log's last id, a push leaves a log that is not sound
-pub made-up-last : checkOf (pushOf store (stateOf 4096 0 4) (1 ∷ []) (0 ∷ []) [] .store) 5120 ≡ refused 15 4
-unfolding pagesFor pageAt numberAt bytesOf markAt lengthAt idAt entryAt blank firstPage laterPage laterPages laterImage entryPages entryImage tooLong badState entryData some badEnd badBatch largeData someLarge wrote writing turn entriesFrom pushOf laterMarks checkStart checkPage checkEnd checkFrom checkOf
-made-up-last = refl
-
 -- ---- the data of the entry on that page of id 9 is a part of the log
 
 pub five-bytes : dataAt ninePage 0 5 ≡ take 5 (drop 12 ninePage)
 unfolding pagesFor bytesOf blank firstPage laterPage laterPages entryPages
 five-bytes = data-one-part ninePage 0 5 (lit≤ tt) (lit< tt)
+
+-- ---- a sequence from 1, over words that are not zero
+
+abbrev ones : List ℕ
+ones = replicate 64 255
+
+pub notes-right : RightSequence 1 (run-notes (begun 1 ones) (3 ∷ 1 ∷ [])) (run-notes (run-notes (begun 1 ones) (3 ∷ 1 ∷ [])) (2 ∷ 4 ∷ []))
+notes-right = complete-right 1 ones refl (3 ∷ 1 ∷ []) (2 ∷ 4 ∷ [])
+
+pub three-added : (i : ℕ) → Known 4 1 (noteOf (newOf 1) ones 3 .words) i ↔ (Known 1 1 ones i ⊎ (i ≡ 3))
+unfolding only shifted rounds noteOf
+three-added = note-adds (newOf 1) ones refl 3 1 4 refl

@@ -122,7 +122,7 @@ answered-in w (c ∷ cs) x m = ⊎-elim
     (λ i. let a = answered-in (step w c) cs x i in record { earlier = c ∷ a .earlier; is = a .is })
     (List·Memᴰ·cases-cons m)
 
--- DEMAND 3: through any sequence of calls, refused ones included, from a sound log and its recovered state, a settled id keeps its first answer: found exactly if it is stored
+-- DEMAND 3, 11.9: through any sequence of calls, refused ones included, from a sound log and its recovered state, a settled id keeps its first answer: found exactly if it is stored
 unfoldable pub settled : (w : World) → Begun w → (earlier : List Call) (id : ℕ) → Settled (run w earlier) id → KeepsFirst (run w earlier) id
 settled w b earlier id h =
     let v = run w earlier in
@@ -158,7 +158,7 @@ held-on : {a b : List ℕ} → Grows a b → Sound a → {id : ℕ} {d : List �
 unfolding holds-kept
 held-on {a} {b} g s {id} {d} h = rw (g .is) (holds-kept a (g .more) id d s h, refl)
 
--- "What a push writes onto a sound log reads back": from a sound log and its recovered state, after any calls, each entry that a push counts as written
+-- 11.8: from a sound log and its recovered state, after any calls, each entry that a push counts as written
 pub read-back : (w : World) → Begun w → (earlier : List Call) (ids ends bytes : List ℕ) (words : Words ids) (k : ℕ)
     → k < pushOf (run w earlier .store) (run w earlier .state) ids ends bytes .answer .written
     → ReadsBack (step (run w earlier) (push ids ends bytes words)) (getD ids k 0) (entryData ends bytes k)

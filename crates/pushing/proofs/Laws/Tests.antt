@@ -37,13 +37,13 @@ module _ (store : List ℕ) (st : State) (ids ends bytes : List ℕ) where
 
 -- ---- an entry's turn
 
--- the test of the order, as the code has it, tells whether the id is above the last
-module _ (id last : ℕ) (late : Bool) where
-  pub is-late : (last < id → late ≡ false) → late ≡ true → id ≤ last
-  is-late h e = ⊎-elim (λ l. let f = h l in absurd (let z : _≡_ {A = ℕ} 0 1 = cc in omega arith)) (λ l. l) (side last id)
+-- a test that tells whether the id is at or below the last, by what it says of each
+module _ (id last : ℕ) (test : Bool) where
+  pub order-broken : (last < id → test ≡ false) → test ≡ true → id ≤ last
+  order-broken h e = ⊎-elim (λ l. let f = h l in absurd (let z : _≡_ {A = ℕ} 0 1 = cc in omega arith)) (λ l. l) (side last id)
 
-  pub not-late : (id ≤ last → late ≡ true) → late ≡ false → last < id
-  not-late h e = ⊎-elim (λ l. l) (λ l. let f = h l in absurd (let z : _≡_ {A = ℕ} 0 1 = cc in omega arith)) (side last id)
+  pub order-kept : (id ≤ last → test ≡ true) → test ≡ false → last < id
+  order-kept h e = ⊎-elim (λ l. l) (λ l. let f = h l in absurd (let z : _≡_ {A = ℕ} 0 1 = cc in omega arith)) (side last id)
 
 -- all that an entry's turn may come to
 pub data EntrySays (j id : ℕ) (d : List ℕ) (p : Point) : Round Done Point → Type 0 where

@@ -7,14 +7,14 @@ use lib.ListN.{length-drop}
 use Rattle.page.specs.Size.{pageSize}
 use Rattle.page.proofs.Parting.{rest-of}
 use Rattle.pushing.specs.Push.{point}
-use Rattle.pushing.proofs.Laws.Tests.{is-late, not-late, turn-order}
+use Rattle.pushing.proofs.Laws.Tests.{order-broken, order-kept, turn-order}
 use Rattle.pushing.proofs.Laws.Entries.{refuse-too-large, refuse-no-room, write-pages}
 use Rattle.pushing.proofs.write_in_turn.Statement.{statement}
 use Rattle.pushing.proofs.write_in_turn.Tie as tie
 
 -- past the test of the order
 above : (c : tie.Else1) → c .before .before .before .before .before .args .state .last < c .before .before .before .before .before .args .id
-above c = not-late _ _ _ (λ l. rw (le-leb _ _ l)) (c .if1 .left)
+above c = order-kept _ _ _ (λ l. rw (le-leb _ _ l)) (c .if1 .left)
 
 sub-room : tie.Need-sub-room
 sub-room c = omega arith
@@ -22,7 +22,7 @@ sub-room c = omega arith
 returns : tie.Need-returns
 returns c =
     let a = c .before .before .before .before .before .args in
-    λ j. sym (turn-order j (a .id) (a .bytes .now) (point (a .state) (a .image .now) (a .store .now)) (is-late _ _ _ (λ l. rw (lt-leb _ _ l)) (c .if1 .taken)))
+    λ j. sym (turn-order j (a .id) (a .bytes .now) (point (a .state) (a .image .now) (a .store .now)) (order-broken _ _ _ (λ l. rw (lt-leb _ _ l)) (c .if1 .taken)))
 
 moved-requires : tie.Need-moved-requires
 moved-requires c κs = tt

@@ -1,5 +1,5 @@
 -- `is_below` meets its contract. Assumes nothing.
-use Rattle.scanning.proofs.Laws.Ends.{below-excluded}
+use Rattle.scanning.proofs.Laws.Range.{below-excluded}
 use Rattle.scanning.proofs.is_below.Statement.{statement}
 use Rattle.scanning.proofs.is_below.Tie as tie
 

@@ -18,7 +18,7 @@ module _ (store : List ℕ) (st : State) (id : ℕ) (out : List ℕ) where
   log = take (st .length) store
 
   module _ (position len : ℕ) (f : findOf store st id ≡ found position len) where
-    -- as many pages from the entry's page on, or from one before it, lie in the log
+    -- the pages of its data, from the entry's page on or from one before it, lie in the log
     pub data-within : (s : ℕ) → s ≤ position / pageSize → s + pagesForData len ≤ pageCount log
     data-within s p =
         let h = found-whole store st id position len f in

@@ -92,7 +92,7 @@ module _ (store : List ℕ) (n : ℕ) where
     unfolding recoverOf recoverLog
     recover-tail z = rw (t, ← e, ne-eqb (length (take w store)) 0 (λ y. z (omega (arith, length-cut))))
 
-  -- the part that is walked ends where the excess begins
+  -- the part that is walked ends where the excess begins; its length only shows w to the checker
   pub recover-part : tooLong store n ≡ false → (w : ℕ) → w ≡ length (take w store) → w ≡ n - excessOf n → (w ≡ 0 → ⊥)
       → walkBack (take w store) (excessOf n) (pageCount (take w store) - 1) ≡ recoverOf store n
   recover-part t w size e = recover-tail t w e

@@ -1,4 +1,4 @@
--- `sequence::IdSequence::complete` meets its contract: true where none remain, and false where one does. Assumes nothing.
+-- `IdSequence::complete` meets its contract: true where none remain, and false where one does. Either order of the test is read, so that a wrong one is refused by numbers. Assumes nothing.
 use mathlib.Core.Path.{_≡_, refl, sym}
 use mathlib.Core.Bool.{Bool, true, false}
 use Prim.Native.Nat.{ℕ, _≤_, _<_}

@@ -1,4 +1,4 @@
--- `sequence::IdSequence::new` meets its contract: none is noted, so that after is start. Assumes nothing.
+-- `IdSequence::new` meets its contract: none is noted, so that after is start. Assumes nothing.
 use mathlib.Core.Path.{_≡_}
 use Prim.Native.Nat.{ℕ}
 use native.Mathlib.Omega.{arith}

@@ -1,4 +1,4 @@
--- `sequence::IdSequence::raised` meets its contract: the greater of two numbers. Assumes nothing.
+-- `raised` meets its contract: the greater of two numbers. Assumes nothing.
 use native.Mathlib.Omega.{arith}
 use borrow.Author.Needs.{needs}
 use Rattle.sequence.proofs.IdSequence.raised.Statement.{statement}

@@ -8,7 +8,7 @@ returns : tie.Need-returns
 returns c = take-refused _ (omega arith)
 
 add-t5 : tie.Need-add-t5
-add-t5 c = let some = c .if1 .left in omega arith
+add-t5 c = let not-top = c .if1 .left in omega arith
 
 returns-2 : tie.Need-returns-2
 returns-2 c = take-moves _ (c .if1 .left) _ (omega arith)
