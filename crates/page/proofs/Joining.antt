@@ -37,9 +37,12 @@ module _ (part₀ image₀ b : List ℕ) (id : ℕ) (part₁ image₁ : List ℕ
   more-pages image₂ ys q y =
       let first = firstPage image₀ (payloadOf id b) in
       let later = laterPages (started laterPayload (length b - firstData)) first (drop firstData b) in
-      let e : laterPages (started laterPayload (length (take (length b - firstData) (drop firstData b)))) image₁ (take (length b - firstData) (drop firstData b)) ≡ later = rw (rest-of firstData b, length-drop, i) in (
+      let rest = take (length b - firstData) (drop firstData b) in
+      let e : laterPages (started laterPayload (length rest)) image₁ rest ≡ later = rw (rest-of firstData b, length-drop, i) in
+      let over = y ∙ ap (overwritten (take (length part₁ - pageSize) (drop pageSize part₁))) e in (
         q ∙ rw (rest-of firstData b, length-drop, i) (sym (image-is image₀ id b)),
-        rw (pages-are image₀ id b) (overwritten-more part₀ part₁ first later ys pageSize (p ∙ ap (overwritten part₀) i) (length-first image₀ id b full) (y ∙ ap (overwritten (take (length part₁ - pageSize) (drop pageSize part₁))) e)),
+        rw (pages-are image₀ id b)
+            (overwritten-more part₀ part₁ first later ys pageSize (p ∙ ap (overwritten part₀) i) (length-first image₀ id b full) over),
       )
 
 pub length-entry : (image : List ℕ) (id : ℕ) (d : List ℕ) → length image ≡ pageSize → length (entryPages image id d) ≡ pagesForData (length d) * pageSize

@@ -99,7 +99,7 @@ module _ (store : List ℕ) (n : ℕ) (f : Fits store n) (s : Sound (cutLog stor
       some z =
           let pages : n - excessOf n ≡ 0 → ⊥ = λ y. omega arith in
           let e = walk-ends (cutLog store n) s (excessOf n) (cut-pages store n t (n - excessOf n) refl pages) in
-          rw (← recover-tail store n t (n - excessOf n) refl pages, e .is) (right-last (cutLog store n) s (excessOf n) (e .page) (e .last))
+          rw (← recover-tail store n t (n - excessOf n) (sym (length-cut store n t (n - excessOf n) refl)) refl pages, e .is) (right-last (cutLog store n) s (excessOf n) (e .page) (e .last))
 
 -- a recovery that is not refused had a store and a length in bounds
 pub recovered-fits : (store : List ℕ) (n : ℕ) (st : State) (excess : ℕ) → recoverOf store n ≡ recovered st excess → Fits store n
@@ -162,7 +162,7 @@ recover-alike store other n s f g start same =
     let a = length-cut store n t (n - excessOf n) refl in
     let b = length-cut other n u (n - excessOf n) refl in
     let some : n - excessOf n ≡ 0 → ⊥ = λ z. omega (arith, start .inside) in
-    sym (recover-tail store n t (n - excessOf n) refl some)
+    sym (recover-tail store n t (n - excessOf n) (sym a) refl some)
     ∙ back-alike (cutLog store n) (cutLog other n) s (start .marked) (a ∙ sym b) same (excessOf n) (pageCount (cutLog store n) - 1) (omega (arith, start .inside))
     ∙ ap (λ (k : ℕ). walkBack (cutLog other n) (excessOf n) (k / pageSize - 1)) (a ∙ sym b)
-    ∙ recover-tail other n u (n - excessOf n) refl some
+    ∙ recover-tail other n u (n - excessOf n) (sym b) refl some

@@ -33,8 +33,13 @@ same-length-2 c = search needs
 
 returns-2 : tie.Need-returns-2
 returns-2 c =
-    let a = c .before .before .before .before .before .before .before .before .before .before .args in
-    let e = refuse-batch (a .store .now) (a .state) (a .ids .now) (a .ends .now) (a .bytes .now) (sym (c .before .before .before .before .is-bad-state .ensures) ∙ c .before .before .before .if1 .left) (sym (c .before .before .is-bad-batch .ensures) ∙ c .before .if2 .taken) in
+    let at-batch = c .before .before in
+    let at-state = at-batch .before .before in
+    let a = at-state .before .before .before .before .before .before .args in
+    let e =
+    refuse-batch (a .store .now) (a .state) (a .ids .now) (a .ends .now) (a .bytes .now)
+    (sym (at-state .is-bad-state .ensures) ∙ at-batch .before .if1 .left)
+    (sym (at-batch .is-bad-batch .ensures) ∙ c .before .if2 .taken) in
     (c .refused2 .ensures ∙ ap (λ (r : Done). r .answer) e, ap (λ (r : Done). r .store) e)
 
 is-some-large-requires : tie.Need-is-some-large-requires
@@ -48,20 +53,39 @@ same-length-3 c = search needs
 
 returns-3 : tie.Need-returns-3
 returns-3 c =
-    let a = c .before .before .before .before .before .before .before .before .before .before .before .before .args in
-    let e = refuse-large (a .store .now) (a .state) (a .ids .now) (a .ends .now) (a .bytes .now) (sym (c .before .before .before .before .before .before .is-bad-state .ensures) ∙ c .before .before .before .before .before .if1 .left) (sym (c .before .before .before .before .is-bad-batch .ensures) ∙ c .before .before .before .if2 .left) (sym (c .before .before .is-some-large .ensures) ∙ c .before .if3 .taken) in
+    let at-large = c .before .before in
+    let at-batch = at-large .before .before in
+    let at-state = at-batch .before .before in
+    let a = at-state .before .before .before .before .before .before .args in
+    let e =
+    refuse-large (a .store .now) (a .state) (a .ids .now) (a .ends .now) (a .bytes .now)
+    (sym (at-state .is-bad-state .ensures) ∙ at-batch .before .if1 .left)
+    (sym (at-batch .is-bad-batch .ensures) ∙ at-large .before .if2 .left)
+    (sym (at-large .is-some-large .ensures) ∙ c .before .if3 .taken) in
     (c .refused3 .ensures ∙ ap (λ (r : Done). r .answer) e, ap (λ (r : Done). r .store) e)
 
 write-entries-requires : tie.Need-write-entries-requires
-write-entries-requires c κs = (good-state _ _ (sym (c .before .before .before .before .before .before .is-bad-state .ensures) ∙ c .before .before .before .before .before .if1 .left) .fits .inside, sym (c .before .before .before .before .is-bad-batch .ensures) ∙ c .before .before .before .if2 .left)
+write-entries-requires c κs =
+    let at-batch = c .before .before .before .before in
+    let at-state = at-batch .before .before in (
+      good-state _ _ (sym (at-state .is-bad-state .ensures) ∙ at-batch .before .if1 .left) .fits .inside,
+      sym (at-batch .is-bad-batch .ensures) ∙ c .before .before .before .if2 .left,
+    )
 
 same-length-4 : tie.Need-same-length-4
 same-length-4 c = search needs
 
 returns-4 : tie.Need-returns-4
 returns-4 c =
-    let a = c .before .before .before .before .before .before .before .before .before .before .before .before .before .before .before .args in
-    let e = entries-in-turn (a .store .now) (a .state) (a .ids .now) (a .ends .now) (a .bytes .now) (sym (c .before .before .before .before .before .before .before .before .before .is-bad-state .ensures) ∙ c .before .before .before .before .before .before .before .before .if1 .left) (sym (c .before .before .before .before .before .before .before .is-bad-batch .ensures) ∙ c .before .before .before .before .before .before .if2 .left) (sym (c .before .before .before .before .before .is-some-large .ensures) ∙ c .before .before .before .before .if3 .left) in
+    let at-large = c .before .before .before .before .before in
+    let at-batch = at-large .before .before in
+    let at-state = at-batch .before .before in
+    let a = at-state .before .before .before .before .before .before .args in
+    let e =
+    entries-in-turn (a .store .now) (a .state) (a .ids .now) (a .ends .now) (a .bytes .now)
+    (sym (at-state .is-bad-state .ensures) ∙ at-batch .before .if1 .left)
+    (sym (at-batch .is-bad-batch .ensures) ∙ at-large .before .if2 .left)
+    (sym (at-large .is-some-large .ensures) ∙ c .before .before .before .before .if3 .left) in
     (c .before .before .write-entries .ensures .0 ∙ ap (λ (r : Done). r .answer) e, c .before .before .write-entries .ensures .1 ∙ ap (λ (r : Done). r .store) e)
 
 pub push-spec : {M : Type 1} → statement M

@@ -59,7 +59,9 @@ same-length : tie.Need-same-length Inv-loop μ-loop
 same-length c = omega arith
 
 returns : tie.Need-returns Inv-loop μ-loop
-returns c = entries-refused (c .before .before .before .before .before .before .before .before .before .before .before .before .before .before .loop .inv) (omega arith) _ _ _ (c .before .before .before .before .before .before .before .write-in-turn .ensures) _ _ (c .before .before .refusal .given .1) _ _ (c .refused .ensures) (omega arith)
+returns c =
+    let at-turn = c .before .before .before .before .before .before .before in
+    entries-refused (at-turn .before .before .before .before .before .before .before .loop .inv) (omega arith) _ _ _ (at-turn .write-in-turn .ensures) _ _ (c .before .before .refusal .given .1) _ _ (c .refused .ensures) (omega arith)
 
 enum-known-after : tie.Need-enum-known-after Inv-loop μ-loop
 enum-known-after c = search needs
@@ -72,7 +74,8 @@ loop-less c = omega arith
 
 loop-again : tie.Need-loop-again Inv-loop μ-loop
 loop-again c =
-    entries-again (c .before .before .before .before .before .before .before .before .before .before .before .before .before .loop .inv) (omega arith) _ _ _ (c .before .before .before .before .before .before .write-in-turn .ensures) _ (c .before .after .given .1) (omega arith) (omega arith) _ (omega arith)
+    let at-turn = c .before .before .before .before .before .before in
+    entries-again (at-turn .before .before .before .before .before .before .before .loop .inv) (omega arith) _ _ _ (at-turn .write-in-turn .ensures) _ (c .before .after .given .1) (omega arith) (omega arith) _ (omega arith)
 
 same-length-2 : tie.Need-same-length-2 Inv-loop μ-loop
 same-length-2 c = omega arith

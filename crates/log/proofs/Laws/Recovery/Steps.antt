@@ -1,6 +1,6 @@
 -- The steps of recovery, as the code takes them. Assumes nothing.
 use Prim.Native.Nat.{ℕ, zero, suc, _-_, _≤_, _<_}
-use mathlib.Core.Path.{_≡_, sym}
+use mathlib.Core.Path.{_≡_, sym, _∙_}
 use mathlib.Core.Bool.{true, false}
 use mathlib.Core.Logic.{⊎-elim}
 use mathlib.Core.List.{List}
@@ -88,11 +88,8 @@ module _ (store : List ℕ) (n : ℕ) where
     unfolding recoverOf recoverLog
     recover-fresh z st f = rw (t, f, ← e, eq-eqb (length (take w store)) 0 (omega (arith, length-cut)))
 
-    pub recover-tail : (w ≡ 0 → ⊥) → walkBack (take w store) (excessOf n) (pageCount (take w store) - 1) ≡ recoverOf store n
-    unfolding recoverOf recoverLog
-    recover-tail z = rw (t, ← e, ne-eqb (length (take w store)) 0 (λ y. z (omega (arith, length-cut))))
-
-  -- the part that is walked ends where the excess begins; its length only shows w to the checker
-  pub recover-part : tooLong store n ≡ false → (w : ℕ) → w ≡ length (take w store) → w ≡ n - excessOf n → (w ≡ 0 → ⊥)
+  -- the part that is walked, of w bytes, ends where the excess begins
+  pub recover-tail : tooLong store n ≡ false → (w : ℕ) → w ≡ length (take w store) → w ≡ n - excessOf n → (w ≡ 0 → ⊥)
       → walkBack (take w store) (excessOf n) (pageCount (take w store) - 1) ≡ recoverOf store n
-  recover-part t w size e = recover-tail t w e
+  unfolding recoverOf recoverLog
+  recover-tail t w size e z = rw (t, ← e, ne-eqb (length (take w store)) 0 (λ y. z (size ∙ y)))

@@ -1,7 +1,7 @@
 -- `recover` meets its contract. Assumes nothing.
 use mathlib.Core.Path.{refl, sym, _∙_}
 use native.Mathlib.Omega.{arith}
-use Rattle.log.proofs.Laws.Recovery.Steps.{part-length, recover-bad, recover-fresh, recover-part}
+use Rattle.log.proofs.Laws.Recovery.Steps.{part-length, recover-bad, recover-fresh, recover-tail}
 use Rattle.log.proofs.recovery.recover.Statement.{statement}
 use Rattle.log.proofs.recovery.recover.Tie as tie
 
@@ -32,7 +32,7 @@ returns-3 : tie.Need-returns-3
 returns-3 c =
     let some = c .before .before .if2 .left in
     c .walk-back .ensures
-    ∙ recover-part _ _ (sym (c .before .before .before .before .is-too-long .ensures) ∙ c .before .before .before .if1 .left) _ (slice-aggregate-walk-back (c .before)) (omega arith) (λ z. omega arith)
+    ∙ recover-tail _ _ (sym (c .before .before .before .before .is-too-long .ensures) ∙ c .before .before .before .if1 .left) _ (slice-aggregate-walk-back (c .before)) (omega arith) (λ z. omega arith)
 
 pub recover-spec : {M : Type 1} → statement M
 recover-spec =
