@@ -33,12 +33,12 @@ module _ (log x : List ℕ) where
 
 -- ---- an entry's pages put after a log of whole pages read back
 
-module _ (log image : List ℕ) (id : ℕ) (d : List ℕ) (whole : length log % pageSize ≡ 0) (full : length image ≡ pageSize) where
+module _ (log : List ℕ) (id : ℕ) (d : List ℕ) (whole : length log % pageSize ≡ 0) where
   abbrev entry : List ℕ
-  entry = entryPages image id d
+  entry = entryPages id d
 
   pub length-added : length (log ++ entry) ≡ length log + pagesForData (length d) * pageSize
-  length-added = length-append log entry ∙ rw (length-entry image id d full)
+  length-added = length-append log entry ∙ rw (length-entry id d)
 
   pub whole-added : length (log ++ entry) % pageSize ≡ 0
   whole-added = omega (arith, length-added)
@@ -50,16 +50,16 @@ module _ (log image : List ℕ) (id : ℕ) (d : List ℕ) (whole : length log % 
   at-zero = let e : pageCount log + 0 ≡ pageCount log = omega arith in rw e at (page-added log entry whole 0)
 
   pub mark-added : markAt (log ++ entry) (pageCount log) ≡ 1
-  mark-added = mark-same (log ++ entry) entry (pageCount log) 0 at-zero ∙ mark-first image id d full
+  mark-added = mark-same (log ++ entry) entry (pageCount log) 0 at-zero ∙ mark-first id d
 
   pub later-mark-added : (j : ℕ) → 0 < j → j < pagesForData (length d) → markAt (log ++ entry) (pageCount log + j) ≡ 0
-  later-mark-added j some within = mark-same (log ++ entry) entry (pageCount log + j) j (page-added log entry whole j) ∙ mark-later image id d full j some within
+  later-mark-added j some within = mark-same (log ++ entry) entry (pageCount log + j) j (page-added log entry whole j) ∙ mark-later id d j some within
 
   pub payload-added : length d < dataEnd → lengthAt (log ++ entry) (pageCount log) ≡ idSize + length d
-  payload-added h = length-same (log ++ entry) entry (pageCount log) 0 at-zero ∙ length-first-page image id d full h
+  payload-added h = length-same (log ++ entry) entry (pageCount log) 0 at-zero ∙ length-first-page id d h
 
   pub id-added : id < 2 ^ 64 → idAt (log ++ entry) (pageCount log) ≡ id
-  id-added h = id-same (log ++ entry) entry (pageCount log) 0 at-zero ∙ id-first-page image id d full h
+  id-added h = id-same (log ++ entry) entry (pageCount log) 0 at-zero ∙ id-first-page id d h
 
   pub data-added : dataAt (log ++ entry) (pageCount log) (length d) ≡ d
-  data-added = data-same (log ++ entry) entry (pageCount log) 0 (length d) (λ j h. rw (zero-add j) (page-added log entry whole j)) ∙ data-first-page image id d full
+  data-added = data-same (log ++ entry) entry (pageCount log) 0 (length d) (λ j h. rw (zero-add j) (page-added log entry whole j)) ∙ data-first-page id d

@@ -2,6 +2,7 @@ pub mod Listing
 pub mod Counting
 pub mod Digits
 pub mod Parting
+pub mod Filling
 pub mod Placing
 pub mod Paging
 pub mod Runs

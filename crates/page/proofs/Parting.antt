@@ -40,3 +40,10 @@ overwritten-more s p A B ys n e l y =
     let back : drop (n + length B) p ≡ drop (n + length B) s =
     sym (drop-drop (length B) n p) ∙ ap (λ (q : List ℕ). drop (length B) (drop n q)) e ∙ ap (drop (length B)) (drop-at A (drop (length A) s) n l ∙ ap (λ (k : ℕ). drop k s) l) ∙ drop-drop (length B) n s in
     put-back n p B ys y ∙ rw (front, back) (simp (append-assoc, length-append, l))
+
+-- B put for the part from n to z, after A, which was put over the front of s
+pub overwritten-within : (s p A B : List ℕ) (n z : ℕ) → p ≡ overwritten s A → length A ≡ n → n + length B ≡ z → take n p ++ (B ++ drop (z - n) (drop n p)) ≡ overwritten s (A ++ B)
+overwritten-within s p A B n z e l w =
+    let k : z - n ≡ length B = omega arith in
+    rw (e, take-at A (drop (length A) s) n l, drop-at A (drop (length A) s) n l, k, drop-drop (length B) (length A) s)
+    (simp (append-assoc, length-append))

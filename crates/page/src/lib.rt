@@ -7,7 +7,6 @@ mod writing;
 ghost use mathlib.Core.Path.{_≡_};
 ghost use Prim.Native.Nat.{_<_};
 ghost use Rattle.page.specs.Size.{dataEnd, pagesFor, pagesForData, pageCount};
-ghost use Rattle.page.specs.Write.{blank};
 pub use copying::copy_data;
 pub use entry::Entry;
 pub use marks::Mark;
@@ -69,12 +68,5 @@ impl Page {
         ensures { λ r. ⌜ r ≡ pageCount (now (log .entry)) ⌝ }
     {
         log.len() / Self::SIZE
-    }
-
-    // The page image as a push begins.
-    pub fn blank() -> [u8; Page::SIZE]
-        ensures { λ r. ⌜ r ≡ blank ⌝ }
-    {
-        [0; Self::SIZE]
     }
 }

@@ -1,10 +1,11 @@
-// The pages of an entry, each written over the image that the page before left.
+// The pages of an entry, each byte written once, where it lies.
 use crate::Page;
 ghost use mathlib.Core.Path.{_≡_};
-ghost use Prim.Native.Nat.{_*_, _<_, _≤_, min};
-ghost use lib.ListN.{length};
+ghost use mathlib.Core.List.{_++_};
+ghost use Prim.Native.Nat.{_-_, _*_, _<_, _≤_, min};
+ghost use lib.ListN.{length, replicate, take};
 ghost use Rattle.page.specs.Size.{pageSize, laterPayload, dataEnd, pagesForData, started};
-ghost use Rattle.page.specs.Write.{overwritten, firstPage, laterPage, laterPages, laterImage, entryPages, entryImage, payloadOf};
+ghost use Rattle.page.specs.Write.{overwritten, filled, laterPages, entryPages};
 ghost use Rattle.page.specs.Private.{headOf};
 
 // Puts src over the front of dst.
@@ -15,6 +16,17 @@ fn put(dst: &mut [u8], src: &[u8])
     let mut i = 0;
     while i < src.len() {
         dst[i] = src[i];
+        i += 1;
+    }
+}
+
+// Clears a part.
+fn clear(part: &mut [u8])
+    ensures { λ _. ⌜ now (part .exit) ≡ replicate (length (now (part .entry))) 0 ⌝ }
+{
+    let mut i = 0;
+    while i < part.len() {
+        part[i] = 0;
         i += 1;
     }
 }
@@ -53,55 +65,42 @@ fn least(a: usize, b: usize) -> usize
     if a < b { a } else { b }
 }
 
-// Writes an entry's first page, to the image and then to the front of `part`.
-fn write_first(part: &mut [u8], image: &mut [u8], id: u64, bytes: &[u8])
-    requires { ⌜ (pageSize ≤ length (now part)) × (length (now image) ≡ pageSize) × (length (now bytes) < dataEnd) ⌝ }
-    ensures { λ _. ⌜ now (image .exit) ≡ firstPage (now (image .entry)) (payloadOf id (now (bytes .entry))) ⌝ }
-    ensures { λ _. ⌜ now (part .exit) ≡ overwritten (now (part .entry)) (now (image .exit)) ⌝ }
+// Writes a page to the front of `part`: what comes before its data, as much of `bytes` as it then holds, and zeros.
+fn write_page(part: &mut [u8], before: &[u8], bytes: &[u8])
+    requires { ⌜ (pageSize ≤ length (now part)) × (length (now before) ≤ pageSize) ⌝ }
+    ensures { λ _. ⌜ now (part .exit) ≡ overwritten (now (part .entry)) (filled (now (before .entry) ++ take (pageSize - length (now (before .entry))) (now (bytes .entry)))) ⌝ }
 {
-    let h = head(Page::ID_SIZE + bytes.len(), id);
-    let m = least(bytes.len(), Page::FIRST_DATA);
-    put(image, &h);
-    put(&mut image[Page::DATA_START..], &bytes[..m]);
-    put(part, image);
-}
-
-// Writes one later page: as much of `bytes` as it holds.
-fn write_later(part: &mut [u8], image: &mut [u8], bytes: &[u8])
-    requires { ⌜ (pageSize ≤ length (now part)) × (length (now image) ≡ pageSize) ⌝ }
-    ensures { λ _. ⌜ now (image .exit) ≡ laterPage (now (image .entry)) (now (bytes .entry)) ⌝ }
-    ensures { λ _. ⌜ now (part .exit) ≡ overwritten (now (part .entry)) (now (image .exit)) ⌝ }
-{
-    let m = least(bytes.len(), Page::LATER_PAYLOAD);
-    image[0] = 0;
-    put(&mut image[1..], &bytes[..m]);
-    put(part, image);
+    let from = before.len();
+    let m = least(bytes.len(), Page::SIZE - from);
+    let end = from + m;
+    put(part, before);
+    put(&mut part[from..], &bytes[..m]);
+    clear(&mut part[end..Page::SIZE]);
 }
 
 // Writes the later pages of an entry, as many as `bytes` starts.
-fn write_rest(part: &mut [u8], image: &mut [u8], bytes: &[u8])
-    requires { ⌜ (started laterPayload (length (now bytes)) * pageSize ≤ length (now part)) × (length (now image) ≡ pageSize) ⌝ }
-    ensures { λ _. ⌜ now (image .exit) ≡ laterImage (started laterPayload (length (now (bytes .entry)))) (now (image .entry)) (now (bytes .entry)) ⌝ }
-    ensures { λ _. ⌜ now (part .exit) ≡ overwritten (now (part .entry)) (laterPages (started laterPayload (length (now (bytes .entry)))) (now (image .entry)) (now (bytes .entry))) ⌝ }
+fn write_rest(part: &mut [u8], bytes: &[u8])
+    requires { ⌜ started laterPayload (length (now bytes)) * pageSize ≤ length (now part) ⌝ }
+    ensures { λ _. ⌜ now (part .exit) ≡ overwritten (now (part .entry)) (laterPages (started laterPayload (length (now (bytes .entry)))) (now (bytes .entry))) ⌝ }
 {
     let k = (bytes.len() + (Page::LATER_PAYLOAD - 1)) / Page::LATER_PAYLOAD;
     let mut j = 0;
     while j < k {
         let at = j * Page::SIZE;
         let from = j * Page::LATER_PAYLOAD;
-        write_later(&mut part[at..], image, &bytes[from..]);
+        write_page(&mut part[at..], &[0], &bytes[from..]);
         j += 1;
     }
 }
 
-// Writes an entry's pages to the front of `part`, each over the image of the one before.
-pub fn write_entry(part: &mut [u8], image: &mut [u8], id: u64, bytes: &[u8])
-    requires { ⌜ (pagesForData (length (now bytes)) * pageSize ≤ length (now part)) × (length (now image) ≡ pageSize) × (length (now bytes) < dataEnd) ⌝ }
-    ensures { λ _. ⌜ now (image .exit) ≡ entryImage (now (image .entry)) id (now (bytes .entry)) ⌝ }
-    ensures { λ _. ⌜ now (part .exit) ≡ overwritten (now (part .entry)) (entryPages (now (image .entry)) id (now (bytes .entry))) ⌝ }
+// Writes an entry's pages to the front of `part`.
+pub fn write_entry(part: &mut [u8], id: u64, bytes: &[u8])
+    requires { ⌜ (pagesForData (length (now bytes)) * pageSize ≤ length (now part)) × (length (now bytes) < dataEnd) ⌝ }
+    ensures { λ _. ⌜ now (part .exit) ≡ overwritten (now (part .entry)) (entryPages id (now (bytes .entry))) ⌝ }
 {
-    write_first(part, image, id, bytes);
+    let before = head(Page::ID_SIZE + bytes.len(), id);
+    write_page(part, &before, bytes);
     if Page::FIRST_DATA < bytes.len() {
-        write_rest(&mut part[Page::SIZE..], image, &bytes[Page::FIRST_DATA..]);
+        write_rest(&mut part[Page::SIZE..], &bytes[Page::FIRST_DATA..]);
     }
 }

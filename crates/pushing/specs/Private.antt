@@ -7,7 +7,7 @@ use Rattle.pushing.specs.Push.{refused, Point, point, Done, done}
 use Rattle.pushing.specs.declared.EntryTurn.{EntryTurn}
 use Rattle.pushing.specs.declared.EntryTurn.the-variants.{Written, Refused}
 
--- of entry j, with the image and the store that its turn leaves
-abbrev pub paperEntryTurn : ℕ → List ℕ → List ℕ → EntryTurn → Round Done Point
-paperEntryTurn j image store (Written st) = again (point st image store)
-paperEntryTurn j image store (Refused r st) = stop (done (refused (numberOf r) (valueOf r)) j (point st image store))
+-- of entry j, with the store that its turn leaves
+abbrev pub paperEntryTurn : ℕ → List ℕ → EntryTurn → Round Done Point
+paperEntryTurn j store (Written st) = again (point st store)
+paperEntryTurn j store (Refused r st) = stop (done (refused (numberOf r) (valueOf r)) j (point st store))

@@ -7,7 +7,7 @@ use lib.ListN.{length, getD, take, drop}
 use Rattle.refusal.specs.Pick.{pick}
 use Rattle.refusal.specs.Refusal.{numberOf, valueOf}
 use Rattle.page.specs.Size.{pageSize, idSize, payloadEnd, dataEnd, pagesForData}
-use Rattle.page.specs.Write.{blank, overwritten, entryPages, entryImage}
+use Rattle.page.specs.Write.{overwritten, entryPages}
 use Rattle.log.specs.Round.{Round, stop, again, follow}
 use Rattle.log.specs.Bounds.{badState}
 use Rattle.log.specs.State.{movedTo}
@@ -75,26 +75,21 @@ someLarge ends bytes = some (largeData ends bytes) (length ends)
 
 -- ---- the entries in turn
 
--- where a push stands: the state, the page image and the store
+-- where a push stands: the state and the store
 pub record Point : Type 0 where
   pub state : State
-  pub image : List ℕ
   pub store : List ℕ
 
-abbrev pub point : State → List ℕ → List ℕ → Point
-point st image store = record { state = st; image = image; store = store }
+abbrev pub point : State → List ℕ → Point
+point st store = record { state = st; store = store }
 
 -- the log as it stands: 1.1 "the first `length` bytes"
 abbrev pub logAt : Point → List ℕ
 logAt p = take (p .state .length) (p .store)
 
--- 1.8 "a push holds one page image, zeros at first"
-abbrev pub begin : List ℕ → State → Point
-begin store st = point st blank store
-
 -- 4.3 "set last written to its id"
 abbrev pub used : ℕ → Point → Point
-used id p = point (movedTo (p .state) (p .state .length) id) (p .image) (p .store)
+used id p = point (movedTo (p .state) (p .state .length) id) (p .store)
 
 -- the bytes of an entry's pages
 abbrev pub bytesFor : List ℕ → ℕ
@@ -102,11 +97,7 @@ bytesFor d = pagesForData (length d) * pageSize
 
 -- 4.3 "write its pages from length on and add them to length"
 unfoldable pub wrote : ℕ → List ℕ → Point → Point
-wrote id d p =
-    point
-    (movedTo (p .state) (p .state .length + bytesFor d) id)
-    (entryImage (p .image) id d)
-    (logAt p ++ overwritten (drop (p .state .length) (p .store)) (entryPages (p .image) id d))
+wrote id d p = point (movedTo (p .state) (p .state .length + bytesFor d) id) (logAt p ++ overwritten (drop (p .state .length) (p .store)) (entryPages id d))
 
 -- what a push leaves: its answer, and the store
 pub record Done : Type 0 where
@@ -139,7 +130,7 @@ entriesFrom ids ends bytes (suc n) j p = follow (entriesFrom ids ends bytes n (s
 -- 4.2 "For the whole batch: 1, then 13, then 16. Each of them changes nothing"; 4.3 "Then entry after entry"
 unfoldable pub pushOf : List ℕ → State → List ℕ → List ℕ → List ℕ → Done
 pushOf store st ids ends bytes =
-    pick (badState store (st .length)) (done (refused 1 0) 0 (begin store st))
-    (pick (badBatch ids ends bytes) (done (refused 13 0) 0 (begin store st))
-    (pick (someLarge ends bytes) (done (refused 16 0) 0 (begin store st))
-    (entriesFrom ids ends bytes (length ids) 0 (begin store st))))
+    pick (badState store (st .length)) (done (refused 1 0) 0 (point st store))
+    (pick (badBatch ids ends bytes) (done (refused 13 0) 0 (point st store))
+    (pick (someLarge ends bytes) (done (refused 16 0) 0 (point st store))
+    (entriesFrom ids ends bytes (length ids) 0 (point st store))))

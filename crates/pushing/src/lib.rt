@@ -7,8 +7,7 @@ ghost use mathlib.Core.Bool.{false};
 ghost use Prim.Native.Nat.{ℕ, _≤_};
 ghost use lib.ListN.{length};
 ghost use Rattle.refusal.specs.Refusal.{numberOf, valueOf};
-ghost use Rattle.page.specs.Size.{pageSize};
-ghost use Rattle.pushing.specs.Push.{badBatch, someLarge, pushing, refused, paperPushed, point, begin, turn, entriesFrom, pushOf};
+ghost use Rattle.pushing.specs.Push.{badBatch, someLarge, pushing, refused, paperPushed, point, turn, entriesFrom, pushOf};
 ghost use Rattle.pushing.specs.Private.{paperEntryTurn};
 
 // Why a push ended: for nothing, or for a refusal.
@@ -82,16 +81,10 @@ enum EntryTurn {
     Refused(Refusal, State),
 }
 
-// An entry's turn: its tests in order, then its pages over the page image.
-fn write_in_turn(
-    store: &mut [u8],
-    image: &mut [u8],
-    state: State,
-    id: u64,
-    bytes: &[u8],
-) -> EntryTurn
-    requires { ⌜ (state .length ≤ length (now store)) × (length (now image) ≡ pageSize) ⌝ }
-    ensures { λ r. ⌜ ((j : ℕ) → paperEntryTurn j (now (image .exit)) (now (store .exit)) r ≡ turn j id (now (bytes .entry)) (point state (now (image .entry)) (now (store .entry)))) ⌝ }
+// An entry's turn: its tests in order, then its pages.
+fn write_in_turn(store: &mut [u8], state: State, id: u64, bytes: &[u8]) -> EntryTurn
+    requires { ⌜ state .length ≤ length (now store) ⌝ }
+    ensures { λ r. ⌜ ((j : ℕ) → paperEntryTurn j (now (store .exit)) r ≡ turn j id (now (bytes .entry)) (point state (now (store .entry)))) ⌝ }
 {
     let at = state.length as usize;
     // both told before the tests, so that testing room first is an edit of one line: must-fail/room_before_order
@@ -109,11 +102,11 @@ fn write_in_turn(
     if room < pages {
         return EntryTurn::Refused(Refusal::NoRoom, used);
     }
-    page::write_entry(&mut store[at..], image, id, bytes);
+    page::write_entry(&mut store[at..], id, bytes);
     EntryTurn::Written(state.moved((at + pages * Page::SIZE) as u64, id))
 }
 
-// Writes the entries of a batch that passed its tests, each in turn, over one page image.
+// Writes the entries of a batch that passed its tests, each in turn.
 fn write_entries(
     store: &mut [u8],
     mut state: State,
@@ -122,15 +115,14 @@ fn write_entries(
     bytes: &[u8],
 ) -> Pushed
     requires { ⌜ (state .length ≤ length (now store)) × (badBatch (now ids) (now ends) (now bytes) ≡ false) ⌝ }
-    ensures { λ r. ⌜ paperPushed r ≡ entriesFrom (now (ids .entry)) (now (ends .entry)) (now (bytes .entry)) (length (now (ids .entry))) 0 (begin (now (store .entry)) state) .answer ⌝ }
-    ensures { λ r. ⌜ now (store .exit) ≡ entriesFrom (now (ids .entry)) (now (ends .entry)) (now (bytes .entry)) (length (now (ids .entry))) 0 (begin (now (store .entry)) state) .store ⌝ }
+    ensures { λ r. ⌜ paperPushed r ≡ entriesFrom (now (ids .entry)) (now (ends .entry)) (now (bytes .entry)) (length (now (ids .entry))) 0 (point state (now (store .entry))) .answer ⌝ }
+    ensures { λ r. ⌜ now (store .exit) ≡ entriesFrom (now (ids .entry)) (now (ends .entry)) (now (bytes .entry)) (length (now (ids .entry))) 0 (point state (now (store .entry))) .store ⌝ }
 {
-    let mut image = Page::blank();
     let mut from = 0;
     let mut written = 0;
     while written < ids.len() {
         let end = ends[written] as usize;
-        match write_in_turn(store, &mut image, state, ids[written], &bytes[from..end]) {
+        match write_in_turn(store, state, ids[written], &bytes[from..end]) {
             EntryTurn::Refused(refusal, after) => return refused(refusal, written, after),
             EntryTurn::Written(after) => state = after,
         }

@@ -10,13 +10,12 @@ use lib.ListN.{length, getD, take, drop}
 use lib.Seq.{drop-drop}
 use Rattle.refusal.specs.Refusal.{numberOf, valueOf}
 use Rattle.refusal.specs.declared.Refusal.{Refusal}
-use Rattle.page.specs.Size.{pageSize, dataEnd}
-use Rattle.page.specs.Write.{blank, overwritten, entryPages, entryImage}
-use Rattle.page.proofs.Written.{length-blank}
+use Rattle.page.specs.Size.{dataEnd}
+use Rattle.page.specs.Write.{overwritten, entryPages}
 use Rattle.page.proofs.Parting.{put-back}
 use Rattle.log.specs.Round.{Round, again, follow}
 use Rattle.log.specs.State.{movedTo}
-use Rattle.pushing.specs.Push.{none, refused, Pushing, pushing, before, entryData, badBatch, Point, point, begin, used, bytesFor, wrote, Done, done, refuse, turn, entriesFrom}
+use Rattle.pushing.specs.Push.{none, refused, Pushing, pushing, before, entryData, badBatch, Point, point, used, bytesFor, wrote, Done, done, refuse, turn, entriesFrom}
 use Rattle.pushing.specs.Private.{paperEntryTurn}
 use Rattle.log.specs.declared.state.State.{State}
 use Rattle.pushing.specs.declared.EntryTurn.{EntryTurn}
@@ -26,31 +25,30 @@ use Rattle.pushing.proofs.Laws.Tests.{EntrySays, out-of-order, too-larg
 
 -- ---- an entry's turn
 
-module _ (id : ℕ) (d : List ℕ) (st : State) (image store : List ℕ) (above : st .last < id) (j : ℕ) where
+module _ (id : ℕ) (d : List ℕ) (st : State) (store : List ℕ) (above : st .last < id) (j : ℕ) where
   abbrev this : Point
-  this = point st image store
+  this = point st store
 
-  pub refuse-too-large : (st′ : State) (l : ℕ) → st′ ≡ movedTo st (st .length) l → l ≡ id → dataEnd ≤ length d → refuse 3 j (point st′ image store) ≡ turn j id d this
+  pub refuse-too-large : (st′ : State) (l : ℕ) → st′ ≡ movedTo st (st .length) l → l ≡ id → dataEnd ≤ length d → refuse 3 j (point st′ store) ≡ turn j id d this
   refuse-too-large st′ l m u b = rw (m, u) (sym (turn-large j id d this above b))
 
   -- the bytes of its pages, as the code has them
   module _ (small : length d < dataEnd) (k : ℕ) (e : k ≡ bytesFor d) where
-    pub refuse-no-room : (st′ : State) (l : ℕ) → st′ ≡ movedTo st (st .length) l → l ≡ id → length store - st .length < k → refuse 4 j (point st′ image store) ≡ turn j id d this
+    pub refuse-no-room : (st′ : State) (l : ℕ) → st′ ≡ movedTo st (st .length) l → l ≡ id → length store - st .length < k → refuse 4 j (point st′ store) ≡ turn j id d this
     refuse-no-room st′ l m u c = rw (m, u) (sym (turn-full j id d this above small (rw e at c)))
 
     -- the pages are written to the rest of the store
     pub write-pages : k ≤ length store - st .length
-        → (image′ ys store′ : List ℕ)
-        → image′ ≡ entryImage image id d
-        → ys ≡ overwritten (take (length store - st .length) (drop (st .length) store)) (entryPages image id d)
+        → (ys store′ : List ℕ)
+        → ys ≡ overwritten (take (length store - st .length) (drop (st .length) store)) (entryPages id d)
         → store′ ≡ take (st .length) store ++ (ys ++ drop (length store - st .length) (drop (st .length) store))
         → (st′ : State) (n l : ℕ) → st′ ≡ movedTo st n l → n ≡ st .length + k → l ≡ id
-        → again (point st′ image′ store′) ≡ turn j id d this
+        → again (point st′ store′) ≡ turn j id d this
     unfolding wrote
-    write-pages c image′ ys store′ i y w st′ n l m q u =
-        let s : store′ ≡ take (st .length) store ++ overwritten (drop (st .length) store) (entryPages image id d) =
-        w ∙ put-back (st .length) store (entryPages image id d) ys y ∙ rw (← drop-drop (length (entryPages image id d)) (st .length) store) in
-        rw (m, q, u, e, i, s) (sym (turn-write j id d this above small (rw e at c)))
+    write-pages c ys store′ y w st′ n l m q u =
+        let s : store′ ≡ take (st .length) store ++ overwritten (drop (st .length) store) (entryPages id d) =
+        w ∙ put-back (st .length) store (entryPages id d) ys y ∙ rw (← drop-drop (length (entryPages id d)) (st .length) store) in
+        rw (m, q, u, e, s) (sym (turn-write j id d this above small (rw e at c)))
 
 -- an entry whose pages were written ends inside the store
 turn-room : (j id : ℕ) (d : List ℕ) (p q : Point) (r : Round Done Point) → p .state .length ≤ length (p .store) → EntrySays j id d p r → again q ≡ r → q .state .length ≤ length (p .store)
@@ -66,27 +64,25 @@ turn-room j id d p q r l (pages-fit a b c) e =
 -- ---- the loop
 
 -- what the loop keeps
-pub record EntriesLoop (store₀ : List ℕ) (st₀ : State) (ids ends bytes store image : List ℕ) (st : State) (from j : ℕ) : Type 0 where
+pub record EntriesLoop (store₀ : List ℕ) (st₀ : State) (ids ends bytes store : List ℕ) (st : State) (from j : ℕ) : Type 0 where
   pub most : j ≤ length ids
   pub good : badBatch ids ends bytes ≡ false
   pub counts : length ids ≡ length ends
   pub room : st .length ≤ length store
   pub long : length store ≡ length store₀
-  pub full : length image ≡ pageSize
   pub from-is : from ≡ before ends j
-  pub same : entriesFrom ids ends bytes (length ids - j) j (point st image store) ≡ entriesFrom ids ends bytes (length ids) 0 (begin store₀ st₀)
+  pub same : entriesFrom ids ends bytes (length ids - j) j (point st store) ≡ entriesFrom ids ends bytes (length ids) 0 (point st₀ store₀)
 
-pub entries-begin : (store : List ℕ) (st : State) (ids ends bytes image : List ℕ) → image ≡ blank → st .length ≤ length store → badBatch ids ends bytes ≡ false
-    → EntriesLoop store st ids ends bytes store image st 0 0
-entries-begin store st ids ends bytes image b l g =
-    record { most = omega arith; good = g; counts = good-counts ids ends bytes g; room = l; long = refl; full = ap length b ∙ length-blank; from-is = refl; same = rw (sub-zero (length ids), b) }
+pub entries-begin : (store : List ℕ) (st : State) (ids ends bytes : List ℕ) → st .length ≤ length store → badBatch ids ends bytes ≡ false → EntriesLoop store st ids ends bytes store st 0 0
+entries-begin store st ids ends bytes l g =
+    record { most = omega arith; good = g; counts = good-counts ids ends bytes g; room = l; long = refl; from-is = refl; same = rw (sub-zero (length ids)) }
 
-module _ {store₀ : List ℕ} {st₀ : State} {ids ends bytes store image : List ℕ} {st : State} {from j : ℕ} (h : EntriesLoop store₀ st₀ ids ends bytes store image st from j) where
+module _ {store₀ : List ℕ} {st₀ : State} {ids ends bytes store : List ℕ} {st : State} {from j : ℕ} (h : EntriesLoop store₀ st₀ ids ends bytes store st from j) where
   abbrev whole : Done
-  whole = entriesFrom ids ends bytes (length ids) 0 (begin store₀ st₀)
+  whole = entriesFrom ids ends bytes (length ids) 0 (point st₀ store₀)
 
   abbrev here : Point
-  here = point st image store
+  here = point st store
 
   -- no entry is left
   pub entries-end : length ids ≤ j → (a : Pushing) (n : ℕ) → a ≡ pushing none n st → n ≡ j → (a ≡ whole .answer) × (store ≡ whole .store)
@@ -120,24 +116,22 @@ module _ {store₀ : List ℕ} {st₀ : State} {ids ends bytes store image : Lis
         let m : length ids - j ≡ suc left = omega arith in
         ap (follow rest) e ∙ rw (h .from-is) (rw m at (h .same))
 
-    module _ (image′ store′ : List ℕ) (r : EntryTurn) (turned : (i : ℕ) → paperEntryTurn i image′ store′ r ≡ turn i (getD ids j 0) (take (getD ends j 0 - from) (drop from bytes)) here) where
+    module _ (store′ : List ℕ) (r : EntryTurn) (turned : (i : ℕ) → paperEntryTurn i store′ r ≡ turn i (getD ids j 0) (take (getD ends j 0 - from) (drop from bytes)) here) where
       pub entries-refused : (x : Refusal) (st′ : State) → r ≡ Refused x st′ → (a : Pushing) (n : ℕ) → a ≡ pushing (refused (numberOf x) (valueOf x)) n st′ → n ≡ j → (a ≡ whole .answer) × (store′ ≡ whole .store)
       entries-refused x st′ e a n f q =
-          let w : done (refused (numberOf x) (valueOf x)) j (point st′ image′ store′) ≡ whole = in-turn _ (rw e at (turned j)) in
+          let w : done (refused (numberOf x) (valueOf x)) j (point st′ store′) ≡ whole = in-turn _ (rw e at (turned j)) in
           (f ∙ rw q (ap (λ (y : Done). y .answer) w), ap (λ (y : Done). y .store) w)
 
-      pub entries-again : (st′ : State) → r ≡ Written st′ → length store′ ≡ length store → length image′ ≡ length image
-          → (j′ : ℕ) → j′ ≡ j + 1 → EntriesLoop store₀ st₀ ids ends bytes store′ image′ st′ (getD ends j 0) j′
-      entries-again st′ e l m j′ z =
-          let t : again (point st′ image′ store′) ≡ turn j (getD ids j 0) (take (getD ends j 0 - from) (drop from bytes)) here = rw e at (turned j) in
-          let w : st′ .length ≤ length store = turn-room j (getD ids j 0) _ here (point st′ image′ store′) _ (h .room) (entry-says j (getD ids j 0) _ here) t in
+      pub entries-again : (st′ : State) → r ≡ Written st′ → length store′ ≡ length store → (j′ : ℕ) → j′ ≡ j + 1 → EntriesLoop store₀ st₀ ids ends bytes store′ st′ (getD ends j 0) j′
+      entries-again st′ e l j′ z =
+          let t : again (point st′ store′) ≡ turn j (getD ids j 0) (take (getD ends j 0 - from) (drop from bytes)) here = rw e at (turned j) in
+          let w : st′ .length ≤ length store = turn-room j (getD ids j 0) _ here (point st′ store′) _ (h .room) (entry-says j (getD ids j 0) _ here) t in
           rw z (record {
             most = omega arith;
             good = h .good;
             counts = h .counts;
             room = omega arith;
             long = l ∙ h .long;
-            full = m ∙ h .full;
             from-is = rw add-one;
-            same = ap (λ (i : ℕ). entriesFrom ids ends bytes left i (point st′ image′ store′)) (add-one j) ∙ in-turn _ t;
+            same = ap (λ (i : ℕ). entriesFrom ids ends bytes left i (point st′ store′)) (add-one j) ∙ in-turn _ t;
           })

@@ -11,27 +11,27 @@ use Rattle.refusal.proofs.Cases.{side}
 use Rattle.page.specs.Size.{idSize, payloadEnd, dataEnd}
 use Rattle.log.specs.Round.{Round, again}
 use Rattle.log.specs.Bounds.{badState}
-use Rattle.pushing.specs.Push.{refused, badBatch, someLarge, Point, begin, used, bytesFor, wrote, Done, done, refuse, writing, turn, entriesFrom, pushOf}
+use Rattle.pushing.specs.Push.{refused, badBatch, someLarge, Point, point, used, bytesFor, wrote, Done, done, refuse, writing, turn, entriesFrom, pushOf}
 use Rattle.log.specs.declared.state.State.{State}
 
 -- ---- the whole batch
 
 module _ (store : List ℕ) (st : State) (ids ends bytes : List ℕ) where
-  pub refuse-state : badState store (st .length) ≡ true → done (refused 1 0) 0 (begin store st) ≡ pushOf store st ids ends bytes
+  pub refuse-state : badState store (st .length) ≡ true → done (refused 1 0) 0 (point st store) ≡ pushOf store st ids ends bytes
   unfolding pushOf
   refuse-state a = rw a
 
   module _ (a : badState store (st .length) ≡ false) where
-    pub refuse-batch : badBatch ids ends bytes ≡ true → done (refused 13 0) 0 (begin store st) ≡ pushOf store st ids ends bytes
+    pub refuse-batch : badBatch ids ends bytes ≡ true → done (refused 13 0) 0 (point st store) ≡ pushOf store st ids ends bytes
     unfolding pushOf
     refuse-batch b = rw (a, b)
 
     module _ (b : badBatch ids ends bytes ≡ false) where
-      pub refuse-large : someLarge ends bytes ≡ true → done (refused 16 0) 0 (begin store st) ≡ pushOf store st ids ends bytes
+      pub refuse-large : someLarge ends bytes ≡ true → done (refused 16 0) 0 (point st store) ≡ pushOf store st ids ends bytes
       unfolding pushOf
       refuse-large c = rw (a, b, c)
 
-      pub entries-in-turn : someLarge ends bytes ≡ false → entriesFrom ids ends bytes (length ids) 0 (begin store st) ≡ pushOf store st ids ends bytes
+      pub entries-in-turn : someLarge ends bytes ≡ false → entriesFrom ids ends bytes (length ids) 0 (point st store) ≡ pushOf store st ids ends bytes
       unfolding pushOf
       entries-in-turn c = rw (a, b, c)
 

@@ -9,27 +9,21 @@ use Rattle.pushing.proofs.write_entries.Statement.{statement}
 use Rattle.pushing.proofs.write_entries.Tie as tie
 
 abbrev Inv-loop : tie.InvT-loop
-Inv-loop store₀ state₀ ids ends bytes image₀ from₀ written₀ store state image from written = EntriesLoop store₀ state₀ ids ends bytes store image state from written
+Inv-loop store₀ state₀ ids ends bytes from₀ written₀ store state from written = EntriesLoop store₀ state₀ ids ends bytes store state from written
 
 abbrev μ-loop : tie.MeasureT-loop
-μ-loop store₀ state₀ ids ends bytes image₀ from₀ written₀ store state image from written = length ids - written
-
-blank-requires : tie.Need-blank-requires Inv-loop μ-loop
-blank-requires c κs = tt
+μ-loop store₀ state₀ ids ends bytes from₀ written₀ store state from written = length ids - written
 
 loop-holds : tie.Need-loop-holds Inv-loop μ-loop
 loop-holds c =
-    let p = c .before .before .before .before .before .pre in
-    entries-begin _ _ _ _ _ _ (c .blank .ensures) (p .0) (p .1)
+    let p = c .before .before .before .before .pre in
+    entries-begin _ _ _ _ _ (p .0) (p .1)
 
 mul-end : tie.Need-mul-end Inv-loop μ-loop
 mul-end c = omega arith
 
 shared-slice-read-end : tie.Need-shared-slice-read-end Inv-loop μ-loop
 shared-slice-read-end c = omega arith
-
-slice-aggregate-write-in-turn : tie.Need-slice-aggregate-write-in-turn Inv-loop μ-loop
-slice-aggregate-write-in-turn c = omega arith
 
 mul-write-in-turn : tie.Need-mul-write-in-turn Inv-loop μ-loop
 mul-write-in-turn c = omega arith
@@ -38,16 +32,16 @@ shared-slice-read-write-in-turn : tie.Need-shared-slice-read-write-in-turn Inv-l
 shared-slice-read-write-in-turn c = omega arith
 
 sub-write-in-turn : tie.Need-sub-write-in-turn Inv-loop μ-loop
-sub-write-in-turn c = omega (arith, data-above (c .before .before .before .before .before .loop .inv) (omega arith))
+sub-write-in-turn c = omega (arith, data-above (c .before .before .before .before .loop .inv) (omega arith))
 
 part-write-in-turn-start : tie.Need-part-write-in-turn-start Inv-loop μ-loop
-part-write-in-turn-start c = omega (arith, data-above (c .before .before .before .before .before .loop .inv) (omega arith), data-inside (c .before .before .before .before .before .loop .inv) (omega arith))
+part-write-in-turn-start c = omega (arith, data-above (c .before .before .before .before .loop .inv) (omega arith), data-inside (c .before .before .before .before .loop .inv) (omega arith))
 
 part-write-in-turn-end : tie.Need-part-write-in-turn-end Inv-loop μ-loop
-part-write-in-turn-end c = omega (arith, data-above (c .before .before .before .before .before .loop .inv) (omega arith), data-inside (c .before .before .before .before .before .loop .inv) (omega arith))
+part-write-in-turn-end c = omega (arith, data-above (c .before .before .before .before .loop .inv) (omega arith), data-inside (c .before .before .before .before .loop .inv) (omega arith))
 
 write-in-turn-requires : tie.Need-write-in-turn-requires Inv-loop μ-loop
-write-in-turn-requires c κs = (omega arith, omega arith)
+write-in-turn-requires c κs = omega arith
 
 enum-known-refusal : tie.Need-enum-known-refusal Inv-loop μ-loop
 enum-known-refusal c = search needs
@@ -60,8 +54,8 @@ same-length c = omega arith
 
 returns : tie.Need-returns Inv-loop μ-loop
 returns c =
-    let at-turn = c .before .before .before .before .before .before .before in
-    entries-refused (at-turn .before .before .before .before .before .before .before .loop .inv) (omega arith) _ _ _ (at-turn .write-in-turn .ensures) _ _ (c .before .before .refusal .given .1) _ _ (c .refused .ensures) (omega arith)
+    let at-turn = c .before .before .before .before .before .before in
+    entries-refused (at-turn .before .before .before .before .before .before .loop .inv) (omega arith) _ _ (at-turn .write-in-turn .ensures) _ _ (c .before .before .refusal .given .1) _ _ (c .refused .ensures) (omega arith)
 
 enum-known-after : tie.Need-enum-known-after Inv-loop μ-loop
 enum-known-after c = search needs
@@ -74,8 +68,8 @@ loop-less c = omega arith
 
 loop-again : tie.Need-loop-again Inv-loop μ-loop
 loop-again c =
-    let at-turn = c .before .before .before .before .before .before in
-    entries-again (at-turn .before .before .before .before .before .before .before .loop .inv) (omega arith) _ _ _ (at-turn .write-in-turn .ensures) _ (c .before .after .given .1) (omega arith) (omega arith) _ (omega arith)
+    let at-turn = c .before .before .before .before .before in
+    entries-again (at-turn .before .before .before .before .before .before .loop .inv) (omega arith) _ _ (at-turn .write-in-turn .ensures) _ (c .before .after .given .1) (omega arith) _ (omega arith)
 
 same-length-2 : tie.Need-same-length-2 Inv-loop μ-loop
 same-length-2 c = omega arith
@@ -89,11 +83,9 @@ write-entries-spec =
     (tie.spec
     Inv-loop
     μ-loop
-    blank-requires
     loop-holds
     mul-end
     shared-slice-read-end
-    slice-aggregate-write-in-turn
     mul-write-in-turn
     shared-slice-read-write-in-turn
     sub-write-in-turn

@@ -13,7 +13,7 @@ use Rattle.pushing.proofs.write_in_turn.Statement.{statement}
 use Rattle.pushing.proofs.write_in_turn.Tie as tie
 
 -- past the test of the order
-above : (c : tie.Else1) → c .before .before .before .before .before .args .state .last < c .before .before .before .before .before .args .id
+above : (c : tie.Else1) → c .before .before .before .before .args .state .last < c .before .before .before .before .args .id
 above c = order-kept _ _ _ (λ l. rw (le-leb _ _ l)) (c .if1 .left)
 
 sub-room : tie.Need-sub-room
@@ -21,25 +21,25 @@ sub-room c = omega arith
 
 returns : tie.Need-returns
 returns c =
-    let a = c .before .before .before .before .before .args in
-    λ j. sym (turn-order j (a .id) (a .bytes .now) (point (a .state) (a .image .now) (a .store .now)) (order-broken _ _ _ (λ l. rw (lt-leb _ _ l)) (c .if1 .taken)))
+    let a = c .before .before .before .before .args in
+    λ j. sym (turn-order j (a .id) (a .bytes .now) (point (a .state) (a .store .now)) (order-broken _ _ _ (λ l. rw (lt-leb _ _ l)) (c .if1 .taken)))
 
 moved-requires : tie.Need-moved-requires
 moved-requires c κs = tt
 
 returns-2 : tie.Need-returns-2
 returns-2 c =
-    let a = c .before .before .before .before .before .before .before .args in
-    λ j. refuse-too-large (a .id) (a .bytes .now) (a .state) (a .image .now) (a .store .now) (above (c .before .before)) j _ _ (c .before .moved .ensures) (omega arith) (omega arith)
+    let a = c .before .before .before .before .before .before .args in
+    λ j. refuse-too-large (a .id) (a .bytes .now) (a .state) (a .store .now) (above (c .before .before)) j _ _ (c .before .moved .ensures) (omega arith) (omega arith)
 
 pages-for-data-requires : tie.Need-pages-for-data-requires
 pages-for-data-requires c κs = omega arith
 
 returns-3 : tie.Need-returns-3
 returns-3 c =
-    let a = c .before .before .before .before .before .before .before .before .before .args in
+    let a = c .before .before .before .before .before .before .before .before .args in
     let k = ap (λ (n : ℕ). n * pageSize) (c .before .pages-for-data .ensures) in
-    λ j. refuse-no-room (a .id) (a .bytes .now) (a .state) (a .image .now) (a .store .now) (above (c .before .before .before .before)) j (omega arith) _ k _ _ (c .before .before .before .moved .ensures) (omega arith) (omega arith)
+    λ j. refuse-no-room (a .id) (a .bytes .now) (a .state) (a .store .now) (above (c .before .before .before .before)) j (omega arith) _ k _ _ (c .before .before .before .moved .ensures) (omega arith) (omega arith)
 
 sub-write-entry : tie.Need-sub-write-entry
 sub-write-entry c = omega arith
@@ -65,15 +65,12 @@ moved-requires-2 c κs = tt
 same-length : tie.Need-same-length
 same-length c = omega arith
 
-same-length-2 : tie.Need-same-length-2
-same-length-2 c = omega arith
-
 returns-4 : tie.Need-returns-4
 returns-4 c =
-    let a = c .before .before .before .before .before .before .before .before .before .before .before .before .before .before .before .before .before .args in
-    let k = ap (λ (n : ℕ). n * pageSize) (c .before .before .before .before .before .before .before .before .before .pages-for-data .ensures) in
-    let w = c .before .before .before .before .before .write-entry .ensures in
-    λ j. write-pages (a .id) (a .bytes .now) (a .state) (a .image .now) (a .store .now) (above (c .before .before .before .before .before .before .before .before .before .before .before .before)) j (omega arith) _ k (omega arith) _ _ _ (w .0) (w .1) refl _ _ _ (c .moved2 .ensures) (omega arith) (omega arith)
+    let a = c .before .before .before .before .before .before .before .before .before .before .before .before .before .args in
+    let k = ap (λ (n : ℕ). n * pageSize) (c .before .before .before .before .before .before .pages-for-data .ensures) in
+    let w = c .before .before .before .write-entry .ensures in
+    λ j. write-pages (a .id) (a .bytes .now) (a .state) (a .store .now) (above (c .before .before .before .before .before .before .before .before .before)) j (omega arith) _ k (omega arith) _ _ w refl _ _ _ (c .moved2 .ensures) (omega arith) (omega arith)
 
 pub write-in-turn-spec : {M : Type 1} → statement M
 write-in-turn-spec =
@@ -93,5 +90,4 @@ write-in-turn-spec =
     add-moved
     moved-requires-2
     same-length
-    same-length-2
     returns-4)

@@ -1,0 +1,82 @@
+-- A page with zeros after its payload: its length, its bytes, and how the writer leaves it. Assumes nothing.
+use mathlib.Core.Path.{_≡_, refl, sym, ap, _∙_}
+use mathlib.Core.List.{List, [], _∷_, _++_, append-nil, append-assoc}
+use Prim.Native.Nat.{ℕ, _+_, _-_, _<_, _≤_, min}
+use native.Mathlib.Decide.{decLt}
+use native.Mathlib.Omega.{arith}
+use lib.ListN.{length, getD, set, take, drop, replicate, length-append, length-set, length-take, length-drop, length-replicate, getD-replicate, List·getD-append, List·getD-eq-default}
+use lib.Seq.{getD-append-add, drop-length}
+use borrow.Author.Fill.{fill-more}
+use Rattle.page.specs.Size.{pageSize}
+use Rattle.page.specs.Write.{overwritten, filled}
+use Rattle.page.proofs.Parting.{overwritten-length, overwritten-more, overwritten-within, take-min}
+
+pub length-filled : (l : List ℕ) → length l ≤ pageSize → length (filled l) ≡ pageSize
+unfolding filled
+length-filled l h = length-append l _ ∙ rw (length-replicate {A = ℕ} (pageSize - length l) 0) (omega arith)
+
+zero-byte : (n i : ℕ) → _≡_ {A = ℕ} (getD (replicate n 0) i 0) 0
+zero-byte n i = elim (decLt i n) [
+  | yes h ↦ getD-replicate n i 0 0 h
+  | no h ↦ List·getD-eq-default (replicate n 0) 0 {n = i} (omega (arith, length-replicate {A = ℕ} n 0))
+]
+
+-- the filling adds no byte that is not 0
+pub filled-byte : (l : List ℕ) (i : ℕ) → getD (filled l) i 0 ≡ getD l i 0
+unfolding filled
+filled-byte l i = elim (decLt i (length l)) [
+  | yes h ↦ List·getD-append l _ 0 i h
+  | no h ↦
+      let e : length l + (i - length l) ≡ i = omega arith in
+      sym (ap (λ (k : ℕ). getD (l ++ replicate (pageSize - length l) 0) k 0) e)
+      ∙ getD-append-add l (replicate (pageSize - length l) 0) (i - length l) 0
+      ∙ zero-byte (pageSize - length l) (i - length l)
+      ∙ sym (List·getD-eq-default l 0 {n = i} (omega arith))
+]
+
+-- ---- the loop that clears a part
+
+-- what holds at its head: the first i bytes are zeros, and the rest is what it was
+pub record ClearLoop (part₀ part : List ℕ) (i : ℕ) : Type 0 where
+  pub long : length part ≡ length part₀
+  pub bytes : part ≡ replicate i 0 ++ drop i part₀
+
+pub clear-begins : (part : List ℕ) (i : ℕ) → i ≡ 0 → ClearLoop part part i
+clear-begins part i e = record { long = refl; bytes = rw e }
+
+module _ (part₀ part : List ℕ) (i : ℕ) (h : ClearLoop part₀ part i) where
+  pub clear-turns : i < length part → ClearLoop part₀ (set part i 0) (i + 1)
+  clear-turns l = record { long = length-set part i 0 ∙ h .long; bytes = ap (λ (x : List ℕ). set x i 0) (h .bytes) ∙ fill-more i 0 part₀ (omega (arith, h .long)) }
+
+  pub clear-ends : length part ≤ i → part ≡ replicate (length part₀) 0
+  clear-ends l =
+      let n : length (replicate i 0 ++ drop i part₀) ≡ i + (length part₀ - i) =
+      length-append (replicate i 0) (drop i part₀) ∙ rw (length-replicate {A = ℕ} i 0, length-drop i part₀) in
+      let e : i ≡ length part₀ = omega (arith, h .long, ap length (h .bytes), n) in
+      h .bytes ∙ rw (e, drop-length part₀) (append-nil (replicate (length part₀) 0))
+
+-- ---- a page written: what comes before its data, as much of the data as it then holds, and zeros to the page's end
+
+module _ (s before d : List ℕ) (m : ℕ) (within : length before ≤ pageSize) (room : pageSize ≤ length s) (e : m ≡ min (length d) (pageSize - length before)) where
+  abbrev front : List ℕ
+  front = before ++ take (pageSize - length before) d
+
+  -- the part after both were put
+  pub front-put : (p ys : List ℕ) → p ≡ overwritten s before → ys ≡ overwritten (take (length p - length before) (drop (length before) p)) (take m d)
+      → take (length before) p ++ (ys ++ drop (length p - length before) (drop (length before) p)) ≡ overwritten s front
+  front-put p ys q y =
+      overwritten-more s p before (take m d) ys (length before) q refl y
+      ∙ ap (λ (x : List ℕ). overwritten s (before ++ x)) (ap (λ (k : ℕ). take k d) e ∙ take-min (pageSize - length before) d)
+
+  length-front : length front ≡ length before + m
+  length-front = length-append before _ ∙ omega (arith, length-take (pageSize - length before) d)
+
+  -- and after it was cleared from there to the page's end; the bound only shows a and z to the checker
+  pub rest-cleared : (p zs : List ℕ) (a z : ℕ) → a ≤ z → p ≡ overwritten s front → a ≡ length before + m → z ≡ pageSize → zs ≡ replicate (length (take (z - a) (drop a p))) 0
+      → take a p ++ (zs ++ drop (z - a) (drop a p)) ≡ overwritten s (filled front)
+  unfolding filled
+  rest-cleared p zs a z shown q at end y =
+      let size : length p ≡ length s = ap length q ∙ overwritten-length s front (omega (arith, length-front)) in
+      let count : length (take (z - a) (drop a p)) ≡ pageSize - length front = omega (arith, length-take (z - a) (drop a p), length-drop a p, length-front) in
+      let zeros : zs ≡ replicate (pageSize - length front) 0 = y ∙ ap (λ (k : ℕ). replicate k 0) count in
+      rw zeros (overwritten-within s p front (replicate (pageSize - length front) 0) a z q (omega (arith, length-front)) (omega (arith, length-front, length-replicate {A = ℕ} (pageSize - length front) 0)))
