@@ -1,3 +1,4 @@
 pub mod Appending
 pub mod Ways
 pub mod Batch
+pub mod Alone

@@ -9,21 +9,15 @@ use Rattle.refusal.specs.Pick.{pick}
 use Rattle.page.specs.Size.{idSize}
 use Rattle.page.specs.Entry.{lengthAt, idAt}
 use Rattle.page.specs.Data.{dataAt}
-use Rattle.page.specs.Write.{blank, entryPages, entryImage}
-use Rattle.pushing.specs.Push.{Why, none, refused, Pushing, entryData, Done}
+use Rattle.page.specs.Write.{entryPages}
+use Rattle.pushing.specs.Push.{Why, none, refused, Pushing, entryData, bytesFor, Done, pushOf}
 use Rattle.log.specs.declared.state.State.{State}
 use Rattle.demands.specs.Sound.{Start, SoundStore}
 
--- the pages of n entries from entry j on, each written over the image that the one before left
-unfoldable pub pagesFrom : List ℕ → List ℕ → List ℕ → ℕ → ℕ → List ℕ → List ℕ
-pagesFrom ids ends bytes zero j image = []
-pagesFrom ids ends bytes (suc n) j image =
-    entryPages image (getD ids j 0) (entryData ends bytes j)
-    ++ pagesFrom ids ends bytes n (suc j) (entryImage image (getD ids j 0) (entryData ends bytes j))
-
 -- the pages of the first n entries of a batch
-abbrev pub batchPages : List ℕ → List ℕ → List ℕ → ℕ → List ℕ
-batchPages ids ends bytes n = pagesFrom ids ends bytes n 0 blank
+unfoldable pub batchPages : List ℕ → List ℕ → List ℕ → ℕ → List ℕ
+batchPages ids ends bytes zero = []
+batchPages ids ends bytes (suc n) = batchPages ids ends bytes n ++ entryPages (getD ids n 0) (entryData ends bytes n)
 
 -- the log that a push leaves
 abbrev pub logAfter : Done → List ℕ
@@ -37,6 +31,41 @@ pub record Grown (store : List ℕ) (st : State) (ids ends bytes : List ℕ) (r 
   pub after : drop (r .answer .state .length) (r .store) ≡ drop (r .answer .state .length) store
   pub size : length (r .store) ≡ length store
   pub next : r .answer .state .next ≡ st .next
+
+-- a push: the store and the state that it is given, and the batch
+pub record Push : Type 0 where
+  pub store : List ℕ
+  pub state : State
+  pub ids : List ℕ
+  pub ends : List ℕ
+  pub bytes : List ℕ
+
+abbrev pub idIn : Push → ℕ → ℕ
+idIn q j = getD (q .ids) j 0
+
+abbrev pub dataIn : Push → ℕ → List ℕ
+dataIn q j = entryData (q .ends) (q .bytes) j
+
+-- what the push leaves
+abbrev pub outcome : Push → Done
+outcome q = pushOf (q .store) (q .state) (q .ids) (q .ends) (q .bytes)
+
+-- 11.3 "entries .. that are counted": entry j is
+abbrev pub Counted : Push → ℕ → Type 0
+Counted q j = j < outcome q .answer .written
+
+-- where entry j begins: after the log, and the pages of the entries before it
+abbrev pub beginsAt : Push → ℕ → ℕ
+beginsAt q j = q .state .length + length (batchPages (q .ids) (q .ends) (q .bytes) j)
+
+-- what the store then has on the pages of entry j
+abbrev pub pagesOf : Push → ℕ → List ℕ
+pagesOf q j = take (bytesFor (dataIn q j)) (drop (beginsAt q j) (outcome q .store))
+
+-- two pushes whose batches differ only in the entries before entry j of one and entry k of the other
+pub record AlikeFrom (q r : Push) (j k : ℕ) : Type 0 where
+  pub same-id : (i : ℕ) → idIn q (j + i) ≡ idIn r (k + i)
+  pub same-data : (i : ℕ) → dataIn q (j + i) ≡ dataIn r (k + i)
 
 -- the id of the last of the first n entries; what it was before if there is none
 abbrev pub lastOf : State → List ℕ → ℕ → ℕ

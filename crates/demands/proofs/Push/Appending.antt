@@ -5,7 +5,7 @@ use mathlib.Core.Logic.{_⊎_, inl, inr, ⊎-elim}
 use mathlib.Core.List.{List, _++_}
 use native.Mathlib.Omega.{arith}
 use lib.ListN.{length, length-append}
-use Rattle.page.specs.Size.{pageSize, idSize, dataEnd, pagesForData, pageCount}
+use Rattle.page.specs.Size.{idSize, dataEnd, pagesForData, pageCount}
 use Rattle.page.specs.Mark.{markAt}
 use Rattle.page.specs.Entry.{lengthAt, idAt, afterAt}
 use Rattle.page.specs.Write.{entryPages}
@@ -39,10 +39,10 @@ module _ (log x : List ℕ) where
 
 -- ---- an entry's pages
 
-module _ (log : List ℕ) (s : Sound log) (image : List ℕ) (id : ℕ) (d : List ℕ) (full : length image ≡ pageSize)
+module _ (log : List ℕ) (s : Sound log) (id : ℕ) (d : List ℕ)
     (one : 1 ≤ id) (word : id < 2 ^ 64) (short : length d < dataEnd) (above : (p : ℕ) → Start log p → idAt log p < id) where
   abbrev entry : List ℕ
-  entry = entryPages image id d
+  entry = entryPages id d
 
   abbrev new : List ℕ
   new = log ++ entry
@@ -51,16 +51,16 @@ module _ (log : List ℕ) (s : Sound log) (image : List ℕ) (id : ℕ) (d : Lis
   end = pageCount log
 
   count : pageCount new ≡ end + pagesForData (length d)
-  count = count-added log image id d (s .pages) full
+  count = count-added log id d (s .pages)
 
   mark-new : (p : ℕ) → p ≡ end → markAt new p ≡ 1
-  mark-new p e = rw e (mark-added log image id d (s .pages) full)
+  mark-new p e = rw e (mark-added log id d (s .pages))
 
   length-new : (p : ℕ) → p ≡ end → lengthAt new p ≡ idSize + length d
-  length-new p e = rw e (payload-added log image id d (s .pages) full short)
+  length-new p e = rw e (payload-added log id d (s .pages) short)
 
   id-new : (p : ℕ) → p ≡ end → idAt new p ≡ id
-  id-new p e = rw e (id-added log image id d (s .pages) full word)
+  id-new p e = rw e (id-added log id d (s .pages) word)
 
   start-new : Start new end
   start-new = record { inside = omega (arith, count, pages-some (idSize + length d)); marked = mark-new end refl }
@@ -68,7 +68,7 @@ module _ (log : List ℕ) (s : Sound log) (image : List ℕ) (id : ℕ) (d : Lis
   later-new : (p : ℕ) → p < pageCount new → end < p → markAt new p ≡ 0
   later-new p h l =
       let e : end + (p - end) ≡ p = omega arith in
-      rw e at (later-mark-added log image id d (s .pages) full (p - end) (omega arith) (omega (arith, count)))
+      rw e at (later-mark-added log id d (s .pages) (p - end) (omega arith) (omega (arith, count)))
 
   -- a start is an old one, or the new entry's
   cases : (p : ℕ) → Start new p → Start log p ⊎ (p ≡ end)
@@ -106,7 +106,7 @@ module _ (log : List ℕ) (s : Sound log) (image : List ℕ) (id : ℕ) (d : Lis
 
   pub sound-append : Sound new
   sound-append = record {
-    pages = whole-added log image id d (s .pages) full;
+    pages = whole-added log id d (s .pages);
     marks = λ p h. ⊎-elim
         (λ e. inr (mark-new p e))
         (⊎-elim
@@ -134,5 +134,5 @@ module _ (log : List ℕ) (s : Sound log) (image : List ℕ) (id : ℕ) (d : Lis
     start = start-new;
     has = id-new end refl;
     size = length-new end refl;
-    same = data-added log image id d (s .pages) full;
+    same = data-added log id d (s .pages);
   }

@@ -4,48 +4,36 @@ use mathlib.Core.Path.{_≡_, refl, sym, ap, _∙_}
 use mathlib.Core.Logic.{⊎-elim}
 use mathlib.Core.List.{List, _++_, append-assoc, append-nil}
 use native.Mathlib.Omega.{arith}
-use lib.ListN.{length, getD, drop, length-append, length-drop}
+use lib.ListN.{length, getD, take, drop, length-append, length-drop}
 use lib.Seq.{take-at, drop-at, drop-drop, length-take-le}
 use Rattle.refusal.proofs.Cases.{side}
-use Rattle.page.specs.Size.{pageSize, dataEnd}
+use Rattle.page.specs.Size.{dataEnd}
 use Rattle.page.specs.Entry.{idAt}
-use Rattle.page.specs.Write.{entryPages, entryImage}
+use Rattle.page.specs.Write.{entryPages}
 use Rattle.page.proofs.Joining.{length-entry}
-use Rattle.page.proofs.Written.{length-blank, length-image}
-use Rattle.pushing.specs.Push.{Why, none, refused, entryData, Point, logAt, begin, used, bytesFor, wrote, Done, done, entriesFrom, pushOf}
+use Rattle.pushing.specs.Push.{Why, none, refused, entryData, Point, point, logAt, used, bytesFor, wrote, Done, done, entriesFrom, pushOf}
 use Rattle.log.specs.declared.state.State.{State}
 use Rattle.demands.proofs.Push.Ways.{by-batch, by-turn}
 use Rattle.demands.specs.Sound.{Start}
-use Rattle.demands.specs.Push.{pagesFrom, logAfter, Grown, lastOf, lastAfter, Holds, Ready, RightPush}
+use Rattle.demands.specs.Push.{batchPages, logAfter, Grown, lastOf, lastAfter, Holds, Ready, RightPush}
 use Rattle.demands.specs.History.{Words}
 use Rattle.demands.proofs.Push.Appending.{holds-kept, sound-append, most-append, holds-append}
 
 -- ---- an entry written
 
--- the length lies in the store, and the image is a whole page
-record Writable (p : Point) : Type 0 where
-  pub full : length (p .image) ≡ pageSize
-  pub inside : p .state .length ≤ length (p .store)
-
-used-writable : {id : ℕ} {p : Point} → Writable p → Writable (used id p)
-used-writable o = record { full = o .full; inside = o .inside }
-
-module _ (id : ℕ) (d : List ℕ) (p : Point) (o : Writable p) (fits : bytesFor d ≤ length (p .store) - p .state .length) where
+module _ (id : ℕ) (d : List ℕ) (p : Point) (inside : p .state .length ≤ length (p .store)) (fits : bytesFor d ≤ length (p .store) - p .state .length) where
   abbrev entry : List ℕ
-  entry = entryPages (p .image) id d
+  entry = entryPages id d
 
   abbrev next : Point
   next = wrote id d p
 
-  size-entry : length entry ≡ bytesFor d
-  size-entry = length-entry (p .image) id d (o .full)
-
   size-log : length (logAt p ++ entry) ≡ p .state .length + bytesFor d
-  size-log = length-append (logAt p) entry ∙ omega (arith, length-take-le (p .state .length) (p .store) (o .inside), size-entry)
+  size-log = length-append (logAt p) entry ∙ omega (arith, length-take-le (p .state .length) (p .store) inside, length-entry id d)
 
   wrote-store : next .store ≡ (logAt p ++ entry) ++ drop (p .state .length + bytesFor d) (p .store)
   unfolding wrote
-  wrote-store = rw (append-assoc (logAt p) entry _, drop-drop (length entry) (p .state .length) (p .store), size-entry)
+  wrote-store = rw (append-assoc (logAt p) entry _, drop-drop (length entry) (p .state .length) (p .store), length-entry id d)
 
   wrote-length : next .state .length ≡ p .state .length + bytesFor d
   unfolding wrote
@@ -64,17 +52,10 @@ module _ (id : ℕ) (d : List ℕ) (p : Point) (o : Writable p) (fits : bytesFor
       rw (drop-drop (n - k) k (next .store), drop-drop (n - k) k (p .store), c) at g
 
   wrote-size : length (next .store) ≡ length (p .store)
-  wrote-size = rw wrote-store (length-append (logAt p ++ entry) _ ∙ rw (size-log, length-drop) (omega (arith, o .inside)))
+  wrote-size = rw wrote-store (length-append (logAt p ++ entry) _ ∙ rw (size-log, length-drop) (omega (arith, inside)))
 
-  wrote-image : next .image ≡ entryImage (p .image) id d
-  unfolding wrote
-  wrote-image = refl
-
-  wrote-writable : Writable next
-  wrote-writable = record {
-    full = rw wrote-image (length-image (p .image) id d (o .full));
-    inside = omega (arith, wrote-length, wrote-size, o .inside);
-  }
+  wrote-inside : next .state .length ≤ length (next .store)
+  wrote-inside = omega (arith, wrote-length, wrote-size, inside)
 
   wrote-next : next .state .next ≡ p .state .next
   unfolding wrote
@@ -85,59 +66,52 @@ unfolding wrote
 wrote-last id d p = refl
 
 -- the entry is there, last written being its id, and the log is sound as before
-module _ (id : ℕ) (d : List ℕ) (p : Point) (o : Writable p) (fits : bytesFor d ≤ length (p .store) - p .state .length)
+module _ (id : ℕ) (d : List ℕ) (p : Point) (fits : bytesFor d ≤ length (p .store) - p .state .length)
     (word : id < 2 ^ 64) (short : length d < dataEnd) (r : Ready (p .store) (p .state)) (above : p .state .last < id) where
   abbrev after : Point
   after = wrote id d (used id p)
 
+  within : p .state .length ≤ length (p .store)
+  within = r .good .fits .inside
+
   over : (q : ℕ) → Start (logAt p) q → idAt (logAt p) q < id
   over q h = omega (arith, r .under q h)
 
+  log-after : logAt after ≡ logAt p ++ entryPages id d
+  log-after = wrote-log id d (used id p) within fits
+
   wrote-holds : Holds (logAt after) id d
-  wrote-holds = rw (wrote-log id d (used id p) (used-writable o) fits) (holds-append (logAt p) (r .good .sound) (p .image) id d (o .full) (omega arith) word short over)
+  wrote-holds = rw log-after (holds-append (logAt p) (r .good .sound) id d (omega arith) word short over)
 
   wrote-ready : Ready (after .store) (after .state)
   wrote-ready = record {
     good = record {
       fits = record {
-        small = omega (arith, r .good .fits .small, wrote-size id d (used id p) (used-writable o) fits);
-        inside = wrote-writable id d (used id p) (used-writable o) fits .inside;
+        small = omega (arith, r .good .fits .small, wrote-size id d (used id p) within fits);
+        inside = wrote-inside id d (used id p) within fits;
       };
-      sound = rw e (sound-append (logAt p) (r .good .sound) (p .image) id d (o .full) (omega arith) word short over);
+      sound = rw log-after (sound-append (logAt p) (r .good .sound) id d (omega arith) word short over);
     };
-    under = rw (e, wrote-last id d (used id p)) (most-append (logAt p) (r .good .sound) (p .image) id d (o .full) (omega arith) word short over);
+    under = rw (log-after, wrote-last id d (used id p)) (most-append (logAt p) (r .good .sound) id d (omega arith) word short over);
   }
-    where
-      e : logAt after ≡ logAt p ++ entryPages (p .image) id d
-      e = wrote-log id d (used id p) (used-writable o) fits
 
 -- ---- the entries in turn
 
--- on any input, what a push from entry j on leaves
-record GrownFrom (ids ends bytes : List ℕ) (j : ℕ) (p : Point) (r : Done) : Type 0 where
-  pub count : ℕ
-  pub counted : r .answer .written ≡ j + count
-  pub log : logAfter r ≡ logAt p ++ pagesFrom ids ends bytes count j (p .image)
+-- on any input, what a push leaves that has come to p, the log being at first `log₀`
+record GrownFrom (log₀ ids ends bytes : List ℕ) (p : Point) (r : Done) : Type 0 where
+  pub log : logAfter r ≡ log₀ ++ batchPages ids ends bytes (r .answer .written)
   pub after : drop (r .answer .state .length) (r .store) ≡ drop (r .answer .state .length) (p .store)
   pub reach : p .state .length ≤ r .answer .state .length
   pub size : length (r .store) ≡ length (p .store)
   pub next : r .answer .state .next ≡ p .state .next
 
-module _ (ids ends bytes : List ℕ) where
-  -- nothing is written
-  grown-none : (j : ℕ) (p q : Point) (why : Why) → q .store ≡ p .store → q .state .length ≡ p .state .length → q .state .next ≡ p .state .next → GrownFrom ids ends bytes j p (done why j q)
-  unfolding pagesFrom
-  grown-none j p q why e a n = record {
-    count = 0;
-    counted = omega arith;
-    log = rw (e, a) (sym (append-nil (logAt p)));
-    after = rw e;
-    reach = omega arith;
-    size = ap length e;
-    next = n;
-  }
+module _ (log₀ ids ends bytes : List ℕ) where
+  -- nothing more is written
+  grown-none : (j : ℕ) (p q : Point) (why : Why) → logAt p ≡ log₀ ++ batchPages ids ends bytes j → q .store ≡ p .store → q .state .length ≡ p .state .length → q .state .next ≡ p .state .next
+      → GrownFrom log₀ ids ends bytes p (done why j q)
+  grown-none j p q why l e a n = record { log = rw (e, a) l; after = rw e; reach = omega arith; size = ap length e; next = n }
 
-  module _ (j : ℕ) (p : Point) (o : Writable p) (fits : bytesFor (entryData ends bytes j) ≤ length (p .store) - p .state .length) where
+  module _ (j : ℕ) (p : Point) (inside : p .state .length ≤ length (p .store)) (fits : bytesFor (entryData ends bytes j) ≤ length (p .store) - p .state .length) where
     abbrev id : ℕ
     id = getD ids j 0
 
@@ -147,44 +121,50 @@ module _ (ids ends bytes : List ℕ) where
     abbrev then : Point
     then = wrote id d (used id p)
 
-    grown-more : (r : Done) → GrownFrom ids ends bytes (suc j) then r → GrownFrom ids ends bytes j p r
-    unfolding pagesFrom
+    log-then : logAt p ≡ log₀ ++ batchPages ids ends bytes j → logAt then ≡ log₀ ++ batchPages ids ends bytes (suc j)
+    unfolding batchPages
+    log-then l = wrote-log id d (used id p) inside fits ∙ rw l (append-assoc log₀ (batchPages ids ends bytes j) (entryPages id d))
+
+    grown-more : (r : Done) → GrownFrom log₀ ids ends bytes then r → GrownFrom log₀ ids ends bytes p r
     grown-more r h = record {
-      count = suc (h .count);
-      counted = omega (arith, h .counted);
-      log = h .log ∙ rw (wrote-log id d (used id p) (used-writable o) fits, wrote-image id d (used id p) (used-writable o) fits) (append-assoc (logAt p) _ _);
-      after = h .after ∙ wrote-after id d (used id p) (used-writable o) fits (r .answer .state .length) (h .reach);
-      reach = omega (arith, h .reach, wrote-length id d (used id p) (used-writable o) fits);
-      size = h .size ∙ wrote-size id d (used id p) (used-writable o) fits;
-      next = h .next ∙ wrote-next id d (used id p) (used-writable o) fits;
+      log = h .log;
+      after = h .after ∙ wrote-after id d (used id p) inside fits (r .answer .state .length) (h .reach);
+      reach = omega (arith, h .reach, wrote-length id d (used id p) inside fits);
+      size = h .size ∙ wrote-size id d (used id p) inside fits;
+      next = h .next ∙ wrote-next id d (used id p) inside fits;
     }
 
-  grown-from : (n j : ℕ) (p : Point) → Writable p → GrownFrom ids ends bytes j p (entriesFrom ids ends bytes n j p)
+  grown-from : (n j : ℕ) (p : Point) → p .state .length ≤ length (p .store) → logAt p ≡ log₀ ++ batchPages ids ends bytes j → GrownFrom log₀ ids ends bytes p (entriesFrom ids ends bytes n j p)
   unfolding entriesFrom
-  grown-from zero j p o = grown-none j p p none refl refl refl
-  grown-from (suc n) j p o = by-turn ids ends bytes n j p (GrownFrom ids ends bytes j p)
-      (λ a. grown-none j p p (refused 2 0) refl refl refl)
-      (λ a b. grown-none j p (used (getD ids j 0) p) (refused 3 0) refl refl refl)
-      (λ a b c. grown-none j p (used (getD ids j 0) p) (refused 4 0) refl refl refl)
-      (λ a b c. grown-more j p o c _ (grown-from n (suc j) _ (wrote-writable (getD ids j 0) (entryData ends bytes j) (used (getD ids j 0) p) (used-writable o) c)))
+  grown-from zero j p o l = grown-none j p p none l refl refl refl
+  grown-from (suc n) j p o l = by-turn ids ends bytes n j p (GrownFrom log₀ ids ends bytes p)
+      (λ a. grown-none j p p (refused 2 0) l refl refl refl)
+      (λ a b. grown-none j p (used (getD ids j 0) p) (refused 3 0) l refl refl refl)
+      (λ a b c. grown-none j p (used (getD ids j 0) p) (refused 4 0) l refl refl refl)
+      (λ a b c. grown-more j p o c _ (grown-from n (suc j) _ (wrote-inside (getD ids j 0) (entryData ends bytes j) (used (getD ids j 0) p) o c) (log-then j p o c l)))
 
 -- ---- THEOREM: on any input a push grows the log by the pages of exactly the entries it counts, and changes no other byte
 
 module _ (store : List ℕ) (st : State) (ids ends bytes : List ℕ) where
-  grown : GrownFrom ids ends bytes 0 (begin store st) (pushOf store st ids ends bytes)
-  grown = by-batch store st ids ends bytes (GrownFrom ids ends bytes 0 (begin store st))
+  abbrev log-before : List ℕ
+  log-before = take (st .length) store
+
+  none-yet : log-before ≡ log-before ++ batchPages ids ends bytes 0
+  unfolding batchPages
+  none-yet = sym (append-nil log-before)
+
+  grown : GrownFrom log-before ids ends bytes (point st store) (pushOf store st ids ends bytes)
+  grown = by-batch store st ids ends bytes (GrownFrom log-before ids ends bytes (point st store))
       (refused-all 1)
       (refused-all 13)
       (refused-all 16)
-      (λ l. grown-from ids ends bytes (length ids) 0 (begin store st) (record { full = length-blank; inside = l }))
+      (λ l. grown-from log-before ids ends bytes (length ids) 0 (point st store) l none-yet)
     where
-      refused-all : (number : ℕ) → GrownFrom ids ends bytes 0 (begin store st) (done (refused number 0) 0 (begin store st))
-      refused-all number = grown-none ids ends bytes 0 (begin store st) (begin store st) (refused number 0) refl refl refl
+      refused-all : (number : ℕ) → GrownFrom log-before ids ends bytes (point st store) (done (refused number 0) 0 (point st store))
+      refused-all number = grown-none log-before ids ends bytes 0 (point st store) (point st store) (refused number 0) none-yet refl refl refl
 
   pub push-grows : Grown store st ids ends bytes (pushOf store st ids ends bytes)
-  push-grows =
-      let e : grown .count ≡ pushOf store st ids ends bytes .answer .written = omega (arith, grown .counted) in
-      record { log = rw e at (grown .log); after = grown .after; size = grown .size; next = grown .next }
+  push-grows = record { log = grown .log; after = grown .after; size = grown .size; next = grown .next }
 
 -- ---- THEOREM: on any input last written after a push is the id of the last entry written, or that of the entry refused by 3 or 4
 
@@ -204,59 +184,48 @@ module _ (st : State) (ids ends bytes : List ℕ) where
 
   pub push-last : (store : List ℕ) → pushOf store st ids ends bytes .answer .state .last ≡ lastAfter st ids (pushOf store st ids ends bytes .answer)
   unfolding LastWrittenIs
-  push-last store = by-batch store st ids ends bytes (LastWrittenIs st ids) refl refl refl (λ l. last-kept (length ids) 0 (begin store st) refl)
+  push-last store = by-batch store st ids ends bytes (LastWrittenIs st ids) refl refl refl (λ l. last-kept (length ids) 0 (point st store) refl)
 
 -- ---- THEOREM: onto a sound log, with last written at or above the last stored id, it stays so and holds every entry counted
-
-record RightFrom (ids ends bytes : List ℕ) (j : ℕ) (r : Done) : Type 0 where
-  pub ready : Ready (r .store) (r .answer .state)
-  pub held : (k : ℕ) → j ≤ k → k < r .answer .written → Holds (logAfter r) (getD ids k 0) (entryData ends bytes k)
 
 used-ready : (id : ℕ) (p : Point) → p .state .last < id → Ready (p .store) (p .state) → Ready (p .store) (used id p .state)
 used-ready id p a r = record { good = r .good; under = λ q h. omega (arith, r .under q h) }
 
 module _ (ids ends bytes : List ℕ) (words : Words ids) where
-  right-none : (j : ℕ) (q : Point) (why : Why) → Ready (q .store) (q .state) → RightFrom ids ends bytes j (done why j q)
-  right-none j q why r = record { ready = r; held = λ k a b. absurd (omega arith) }
+  -- the log holds the first j entries
+  abbrev HoldsBelow : ℕ → List ℕ → Type 0
+  HoldsBelow j log = (k : ℕ) → k < j → Holds log (getD ids k 0) (entryData ends bytes k)
 
-  module _ (n j : ℕ) (p : Point) (o : Writable p) (r : Ready (p .store) (p .state))
-      (rest : (q : Point) → Writable q → Ready (q .store) (q .state) → RightFrom ids ends bytes (suc j) (entriesFrom ids ends bytes n (suc j) q)) where
+  right-none : (j : ℕ) (q : Point) (why : Why) → Ready (q .store) (q .state) → HoldsBelow j (logAt q) → RightPush ids ends bytes (done why j q)
+  right-none j q why r h = record { ready = r; held = h }
+
+  module _ (j : ℕ) (p : Point) (r : Ready (p .store) (p .state)) (h : HoldsBelow j (logAt p)) where
     abbrev this : ℕ
     this = getD ids j 0
 
     abbrev own : List ℕ
     own = entryData ends bytes j
 
-    abbrev onward : Point
-    onward = wrote this own (used this p)
+    holds-more : p .state .last < this → length own < dataEnd → bytesFor own ≤ length (p .store) - p .state .length → HoldsBelow (suc j) (logAt (wrote this own (used this p)))
+    holds-more a b c k l = ⊎-elim
+        (λ s. rw (log-after this own p c (words j) b r a) (holds-kept (logAt p) (entryPages this own) (getD ids k 0) (entryData ends bytes k) (r .good .sound) (h k s)))
+        (λ s. let e : k ≡ j = omega arith in rw e (wrote-holds this own p c (words j) b r a))
+        (side k j)
 
-    right-more : p .state .last < this → length own < dataEnd → bytesFor own ≤ length (p .store) - p .state .length → RightFrom ids ends bytes j (entriesFrom ids ends bytes n (suc j) onward)
-    right-more a b c =
-        let w = wrote-writable this own (used this p) (used-writable o) c in
-        let y = wrote-ready this own p o c (words j) b r a in
-        let later = rest onward w y in
-        let here : Holds (logAfter (entriesFrom ids ends bytes n (suc j) onward)) this own =
-        rw (grown-from ids ends bytes n (suc j) onward w .log) (holds-kept (logAt onward) _ this own (y .good .sound) (wrote-holds this own p o c (words j) b r a)) in
-        record {
-          ready = later .ready;
-          held = λ k l m. ⊎-elim (λ s. later .held k s m) (λ s. let e : k ≡ j = omega arith in rw e here) (side j k);
-        }
-
-  right-from : (n j : ℕ) (p : Point) → Writable p → Ready (p .store) (p .state) → RightFrom ids ends bytes j (entriesFrom ids ends bytes n j p)
+  right-from : (n j : ℕ) (p : Point) → Ready (p .store) (p .state) → HoldsBelow j (logAt p) → RightPush ids ends bytes (entriesFrom ids ends bytes n j p)
   unfolding entriesFrom
-  right-from zero j p o r = right-none j p none r
-  right-from (suc n) j p o r = by-turn ids ends bytes n j p (RightFrom ids ends bytes j)
-      (λ a. right-none j p (refused 2 0) r)
-      (λ a b. right-none j (used (getD ids j 0) p) (refused 3 0) (used-ready (getD ids j 0) p a r))
-      (λ a b c. right-none j (used (getD ids j 0) p) (refused 4 0) (used-ready (getD ids j 0) p a r))
-      (λ a b c. right-more n j p o r (right-from n (suc j)) a b c)
+  right-from zero j p r h = right-none j p none r h
+  right-from (suc n) j p r h = by-turn ids ends bytes n j p (RightPush ids ends bytes)
+      (λ a. right-none j p (refused 2 0) r h)
+      (λ a b. right-none j (used (getD ids j 0) p) (refused 3 0) (used-ready (getD ids j 0) p a r) h)
+      (λ a b c. right-none j (used (getD ids j 0) p) (refused 4 0) (used-ready (getD ids j 0) p a r) h)
+      (λ a b c. right-from n (suc j) _ (wrote-ready (getD ids j 0) (entryData ends bytes j) p c (words j) b r a) (holds-more j p r h a b c))
 
   pub push-right : (store : List ℕ) (st : State) → Ready store st → RightPush ids ends bytes (pushOf store st ids ends bytes)
   push-right store st r =
-      let still : (number : ℕ) → RightFrom ids ends bytes 0 (done (refused number 0) 0 (begin store st)) = λ number. right-none 0 (begin store st) (refused number 0) r in
-      let h = by-batch store st ids ends bytes (RightFrom ids ends bytes 0) (still 1) (still 13) (still 16)
-      (λ l. right-from (length ids) 0 (begin store st) (record { full = length-blank; inside = l }) r) in
-      record { ready = h .ready; held = λ k l. h .held k (omega arith) l }
+      let none-yet : HoldsBelow 0 (logAt (point st store)) = λ k l. absurd (omega arith) in
+      let still : (number : ℕ) → RightPush ids ends bytes (done (refused number 0) 0 (point st store)) = λ number. right-none 0 (point st store) (refused number 0) r none-yet in
+      by-batch store st ids ends bytes (RightPush ids ends bytes) (still 1) (still 13) (still 16) (λ l. right-from (length ids) 0 (point st store) r none-yet)
 
 -- ---- THEOREM: a push that is not refused wrote every entry
 
@@ -285,7 +254,7 @@ module _ (ids ends bytes : List ℕ) where
   pub push-whole : (store : List ℕ) (st : State) → pushOf store st ids ends bytes .answer .reason ≡ none → pushOf store st ids ends bytes .answer .written ≡ length ids
   unfolding AllWritten
   push-whole store st = by-batch store st ids ends bytes (AllWritten (length ids))
-      (cut-short (length ids) 1 0 (begin store st))
-      (cut-short (length ids) 13 0 (begin store st))
-      (cut-short (length ids) 16 0 (begin store st))
-      (λ l. all-from (length ids) (length ids) 0 (begin store st) (omega arith))
+      (cut-short (length ids) 1 0 (point st store))
+      (cut-short (length ids) 13 0 (point st store))
+      (cut-short (length ids) 16 0 (point st store))
+      (λ l. all-from (length ids) (length ids) 0 (point st store) (omega arith))

@@ -11,7 +11,7 @@ use Rattle.log.specs.Round.{Round, follow}
 use Rattle.log.specs.Bounds.{badState}
 use Rattle.log.specs.declared.state.State.{State}
 use Rattle.log.proofs.Laws.Bounds.{good-state}
-use Rattle.pushing.specs.Push.{refused, badBatch, someLarge, Point, begin, used, bytesFor, wrote, Done, done, entryData, entriesFrom, pushOf}
+use Rattle.pushing.specs.Push.{refused, badBatch, someLarge, Point, point, used, bytesFor, wrote, Done, done, entryData, entriesFrom, pushOf}
 use Rattle.pushing.proofs.Laws.Tests.{EntrySays, out-of-order, too-large, full-store, pages-fit, entry-says}
 
 -- ---- the whole batch
@@ -19,8 +19,8 @@ use Rattle.pushing.proofs.Laws.Tests.{EntrySays, out-of-order, too-large, full-
 module _ (store : List ℕ) (st : State) (ids ends bytes : List ℕ) where
   -- what holds where the whole batch is refused, and where its entries are taken in turn, holds of the push
   pub by-batch : (P : Done → Type 0)
-      → P (done (refused 1 0) 0 (begin store st)) → P (done (refused 13 0) 0 (begin store st)) → P (done (refused 16 0) 0 (begin store st))
-      → (st .length ≤ length store → P (entriesFrom ids ends bytes (length ids) 0 (begin store st)))
+      → P (done (refused 1 0) 0 (point st store)) → P (done (refused 13 0) 0 (point st store)) → P (done (refused 16 0) 0 (point st store))
+      → (st .length ≤ length store → P (entriesFrom ids ends bytes (length ids) 0 (point st store)))
       → P (pushOf store st ids ends bytes)
   unfolding pushOf
   by-batch P state batch large entries = ⊎-elim
