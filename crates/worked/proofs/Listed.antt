@@ -8,7 +8,7 @@ use Rattle.page.specs.Size.{pagesFor, pageAt}
 use Rattle.page.specs.Bytes.{numberAt, bytesOf}
 use Rattle.page.specs.Mark.{markAt}
 use Rattle.page.specs.Entry.{lengthAt, idAt, entryAt}
-use Rattle.page.specs.Write.{blank, firstPage, laterPage, laterPages, laterImage, entryPages, entryImage}
+use Rattle.page.specs.Write.{filled, firstPage, laterPage, laterPages, entryPages}
 use Rattle.log.specs.Bounds.{tooLong, badState}
 use Rattle.log.specs.State.{fresh, stateOf}
 use Rattle.log.specs.Guess.{leastFrom, leastShift, offsetOf}
@@ -68,7 +68,7 @@ sixPush = pushOf (replicate 6144 0) fresh (1 ∷ 2 ∷ 3 ∷ 4 ∷ []) (replicat
 
 -- page 0 holding id 9, and six bytes more
 abbrev pub ninePage : List ℕ
-ninePage = entryPages blank 9 hello ++ replicate 6 0
+ninePage = entryPages 9 hello ++ replicate 6 0
 
 -- complete after each of the notes 3, 1, 2, 4 from 1
 abbrev notes : List ℕ → Bool
@@ -100,8 +100,8 @@ asWritten =
     ∷ (0 ∷ 2 ∷ 2048 ∷ 2 ∷ 1 ∷ [])
     -- 13.2: page 0
     ∷ ((1 ∷ 0 ∷ 0 ∷ 0x0d ∷ 0 ∷ 0 ∷ 0 ∷ 0 ∷ 0 ∷ 0 ∷ 0 ∷ 1 ∷ 0x68 ∷ 0x65 ∷ 0x6c ∷ 0x6c ∷ 0x6f ∷ []) ++ replicate 1007 0)
-    -- 13.2: page 1, with what page 0 left as filling
-    ∷ ((1 ∷ 0 ∷ 0 ∷ 0x08 ∷ 0 ∷ 0 ∷ 0 ∷ 0 ∷ 0 ∷ 0 ∷ 0 ∷ 2 ∷ 0x68 ∷ 0x65 ∷ 0x6c ∷ 0x6c ∷ 0x6f ∷ []) ++ replicate 1007 0)
+    -- 13.2: page 1
+    ∷ ((1 ∷ 0 ∷ 0 ∷ 0x08 ∷ 0 ∷ 0 ∷ 0 ∷ 0 ∷ 0 ∷ 0 ∷ 0 ∷ 2 ∷ []) ++ replicate 1012 0)
     -- 13.2: 1 is absent at 2,048
     ∷ (0 ∷ 2048 ∷ [])
     -- 13.3: ten entries written
@@ -122,5 +122,5 @@ asWritten =
 
 -- what the definitions compute is what the rules say
 pub worked : computed ≡ asWritten
-unfolding computed asWritten ofState ofLook ofWhy ofPush ofRecovery ofAnswer pagesFor pageAt numberAt bytesOf markAt lengthAt idAt entryAt blank firstPage laterPage laterPages laterImage entryPages entryImage tooLong badState leastFrom leastShift offsetOf compared sayingAt turned walk search searchOf findOf atLast walkBack recoverLog recoverOf entryData some badEnd badBatch largeData someLarge wrote writing turn entriesFrom pushOf only shifted rounds noteOf answered run
+unfolding computed asWritten ofState ofLook ofWhy ofPush ofRecovery ofAnswer pagesFor pageAt numberAt bytesOf markAt lengthAt idAt entryAt filled firstPage laterPage laterPages entryPages tooLong badState leastFrom leastShift offsetOf compared sayingAt turned walk search searchOf findOf atLast walkBack recoverLog recoverOf entryData some badEnd badBatch largeData someLarge wrote writing turn entriesFrom pushOf only shifted rounds noteOf answered run
 worked = refl

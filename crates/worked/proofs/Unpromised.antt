@@ -3,20 +3,21 @@ use Prim.Native.Nat.{ℕ, zero, suc}
 use mathlib.Core.Path.{_≡_, refl}
 use mathlib.Core.List.{List, [], _∷_, _++_}
 use lib.Dec.{lit<}
-use lib.ListN.{take, drop, replicate}
+use lib.ListN.{getD, take, drop, replicate}
 use Rattle.page.specs.Size.{pagesFor, pageAt}
 use Rattle.page.specs.Bytes.{numberAt, bytesOf}
 use Rattle.page.specs.Mark.{markAt}
 use Rattle.page.specs.Entry.{lengthAt, idAt, entryAt}
-use Rattle.page.specs.Write.{blank, firstPage, laterPage, laterPages, laterImage, entryPages, entryImage}
+use Rattle.page.specs.Write.{filled, firstPage, laterPage, laterPages, entryPages}
 use Rattle.log.specs.Bounds.{tooLong, badState}
-use Rattle.log.specs.State.{stateOf, takeOf}
+use Rattle.log.specs.State.{fresh, stateOf, takeOf}
 use Rattle.log.specs.Recovery.{recovered, atLast, walkBack, recoverLog, recoverOf}
 use Rattle.log.specs.Check.{refused, laterMarks, checkStart, checkPage, checkEnd, checkFrom, checkOf}
 use Rattle.log.specs.Guess.{leastFrom, leastShift, offsetOf}
 use Rattle.log.specs.Lookup.{absent, compared, sayingAt, turned, walk, search, searchOf, findOf}
 use Rattle.pushing.specs.Push.{entryData, some, badEnd, badBatch, largeData, someLarge, wrote, writing, turn, entriesFrom, pushOf}
 use Rattle.demands.specs.Sound.{SoundStore}
+use Rattle.demands.specs.Push.{batchPages, Push, pagesOf}
 use Rattle.demands.specs.History.{Words, Call, push, take-id, recover, answer, step, run}
 use Rattle.demands.proofs.Check.Passing.{checked-sound}
 use Rattle.worked.proofs.Witnessed.{store, begins, other}
@@ -25,7 +26,7 @@ use Rattle.worked.proofs.Witnessed.{store, begins, other}
 
 -- another data byte
 pub flipped-is-sound : SoundStore other 4096
-unfolding pagesFor pageAt numberAt bytesOf markAt lengthAt idAt entryAt blank firstPage laterPage laterPages entryPages tooLong laterMarks checkStart checkPage checkEnd checkFrom checkOf
+unfolding pagesFor pageAt numberAt bytesOf markAt lengthAt idAt entryAt filled firstPage laterPage laterPages entryPages tooLong laterMarks checkStart checkPage checkEnd checkFrom checkOf
 flipped-is-sound = checked-sound other 4096 .0 refl
 
 -- the mark of the last entry's start, now 0
@@ -33,19 +34,19 @@ abbrev unmarked : List ℕ
 unmarked = take 2048 store ++ (0 ∷ drop 2049 store)
 
 pub unmarked-is-sound : SoundStore unmarked 4096
-unfolding pagesFor pageAt numberAt bytesOf markAt lengthAt idAt entryAt blank firstPage laterPage laterPages entryPages tooLong laterMarks checkStart checkPage checkEnd checkFrom checkOf
+unfolding pagesFor pageAt numberAt bytesOf markAt lengthAt idAt entryAt filled firstPage laterPage laterPages entryPages tooLong laterMarks checkStart checkPage checkEnd checkFrom checkOf
 unmarked-is-sound = checked-sound unmarked 4096 .0 refl
 
 -- and its id 3 is handed out again, after 2
 pub unmarked-is-lost : recoverOf unmarked 4096 ≡ recovered (stateOf 4096 1 2) 0
-unfolding pagesFor pageAt numberAt bytesOf markAt lengthAt idAt entryAt blank firstPage laterPage laterPages entryPages tooLong atLast walkBack recoverLog recoverOf
+unfolding pagesFor pageAt numberAt bytesOf markAt lengthAt idAt entryAt filled firstPage laterPage laterPages entryPages tooLong atLast walkBack recoverLog recoverOf
 unmarked-is-lost = refl
 
 -- ---- 12.2: ids that come again after a restart
 
 -- one that was taken and never pushed
 pub dropped-comes-again : run begins (take-id ∷ recover ∷ take-id ∷ []) ≡ run begins (take-id ∷ [])
-unfolding pagesFor pageAt numberAt bytesOf markAt lengthAt idAt entryAt blank firstPage laterPage laterPages entryPages tooLong takeOf atLast walkBack recoverLog recoverOf answer step run
+unfolding pagesFor pageAt numberAt bytesOf markAt lengthAt idAt entryAt filled firstPage laterPage laterPages entryPages tooLong takeOf atLast walkBack recoverLog recoverOf answer step run
 dropped-comes-again = refl
 
 pub four-word : Words (4 ∷ [])
@@ -58,23 +59,46 @@ too-much = push (4 ∷ []) (2036 ∷ []) (replicate 2036 0) four-word
 
 -- one that 4 used up
 pub refused-comes-again : run begins (take-id ∷ too-much ∷ recover ∷ take-id ∷ []) ≡ run begins (take-id ∷ [])
-unfolding pagesFor pageAt numberAt bytesOf markAt lengthAt idAt entryAt blank firstPage laterPage laterPages laterImage entryPages entryImage tooLong badState takeOf atLast walkBack recoverLog recoverOf entryData some badEnd badBatch largeData someLarge wrote writing turn entriesFrom pushOf answer step run
+unfolding pagesFor pageAt numberAt bytesOf markAt lengthAt idAt entryAt filled firstPage laterPage laterPages entryPages tooLong badState takeOf atLast walkBack recoverLog recoverOf entryData some badEnd badBatch largeData someLarge wrote writing turn entriesFrom pushOf answer step run
 refused-comes-again = refl
 
 -- ---- 12.3: faults that are not told
 
 -- a bad mark on the idle page, which no recovery reads
 pub fault-unseen : recoverOf (take 1024 store ++ (7 ∷ drop 1025 store)) 4096 ≡ recoverOf store 4096
-unfolding pagesFor pageAt numberAt bytesOf markAt lengthAt idAt entryAt blank firstPage laterPage laterPages entryPages tooLong atLast walkBack recoverLog recoverOf
+unfolding pagesFor pageAt numberAt bytesOf markAt lengthAt idAt entryAt filled firstPage laterPage laterPages entryPages tooLong atLast walkBack recoverLog recoverOf
 fault-unseen = refl
 
 -- in a log that is not sound, with 5 before 3, a stored id is missed: 11.5 asks for a sound log
-pub stored-and-missed : findOf (entryPages blank 5 [] ++ entryPages blank 3 []) (stateOf 2048 5 6) 5 ≡ absent 2048
-unfolding pagesFor pageAt numberAt bytesOf markAt lengthAt idAt entryAt blank firstPage laterPage laterPages entryPages tooLong badState leastFrom leastShift offsetOf compared sayingAt turned walk search searchOf findOf
+pub stored-and-missed : findOf (entryPages 5 [] ++ entryPages 3 []) (stateOf 2048 5 6) 5 ≡ absent 2048
+unfolding pagesFor pageAt numberAt bytesOf markAt lengthAt idAt entryAt filled firstPage laterPage laterPages entryPages tooLong badState leastFrom leastShift offsetOf compared sayingAt turned walk search searchOf findOf
 stored-and-missed = refl
+
+-- ---- 12.6: filling that another program wrote
+
+-- a byte after the payload of entry 1
+abbrev stale : List ℕ
+stale = take 20 store ++ (5 ∷ drop 21 store)
+
+pub stale-is-sound : SoundStore stale 4096
+unfolding pagesFor pageAt numberAt bytesOf markAt lengthAt idAt entryAt filled firstPage laterPage laterPages entryPages tooLong laterMarks checkStart checkPage checkEnd checkFrom checkOf
+stale-is-sound = checked-sound stale 4096 .0 refl
+
+pub stale-stays : getD (pushOf stale (begins .state) (5 ∷ []) (1 ∷ []) (8 ∷ []) .store) 20 0 ≡ 5
+unfolding pagesFor pageAt bytesOf filled firstPage laterPage laterPages entryPages tooLong badState entryData some badEnd badBatch largeData someLarge wrote writing turn entriesFrom pushOf
+stale-stays = refl
+
+-- ---- 11.3 asks that the entries are counted: of an id and data pushed twice, the second, which is refused, leaves 255s
+
+abbrev twice : Push
+twice = record { store = replicate 2048 255; state = fresh; ids = 1 ∷ 1 ∷ []; ends = 1 ∷ 2 ∷ []; bytes = 8 ∷ 8 ∷ [] }
+
+pub only-the-first : (take 1 (pagesOf twice 0) ≡ 1 ∷ []) × (take 1 (pagesOf twice 1) ≡ 255 ∷ [])
+unfolding pagesFor pageAt bytesOf filled firstPage laterPage laterPages entryPages tooLong badState entryData some badEnd badBatch largeData someLarge wrote writing turn entriesFrom pushOf batchPages
+only-the-first = (refl, refl)
 
 -- ---- 11.7 asks for a last written at or above the last stored id: with one that was made up a push leaves a log that is not sound
 
 pub made-up-last : checkOf (pushOf store (stateOf 4096 0 4) (1 ∷ []) (0 ∷ []) [] .store) 5120 ≡ refused 15 4
-unfolding pagesFor pageAt numberAt bytesOf markAt lengthAt idAt entryAt blank firstPage laterPage laterPages laterImage entryPages entryImage tooLong badState entryData some badEnd badBatch largeData someLarge wrote writing turn entriesFrom pushOf laterMarks checkStart checkPage checkEnd checkFrom checkOf
+unfolding pagesFor pageAt numberAt bytesOf markAt lengthAt idAt entryAt filled firstPage laterPage laterPages entryPages tooLong badState entryData some badEnd badBatch largeData someLarge wrote writing turn entriesFrom pushOf laterMarks checkStart checkPage checkEnd checkFrom checkOf
 made-up-last = refl

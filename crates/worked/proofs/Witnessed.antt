@@ -5,29 +5,31 @@
 --   refused-lookup-keeps, refused-step-keeps  in a state that is refused 1: lookup-kept, step-kept
 --   settled, begun-settled                    from its recovered state, 3 stays found and 2 absent: three-stays-found, two-stays-absent, three-was-given
 --   push-right, push-whole                    5 is pushed: five-is-held, all-written
+--   pages-alone, earlier-hidden               5 after 9, 9, 9 over 255s, by itself after that log, after 6: five-alike, nines-hidden
+--   filling-written                           a byte after its payload: five-filled
 --   read-back                                 two ids are taken, and the second, 5, is pushed: five-reads-back, five-stays-read
 --   recover-right, recover-alike              a length with an excess; a log that differs before its last entry: excess-recovers, recovers-alike
 --   complete-right, note-adds                 over words that are not zero: notes-right, three-added
 --   data-one-part                             the data of an entry of one page: five-bytes
-use Prim.Native.Nat.{ℕ, zero, suc, _≤_, _<_}
+use Prim.Native.Nat.{ℕ, zero, suc, _+_, _≤_, _<_}
 use mathlib.Core.Path.{_≡_, refl}
 use mathlib.Core.Bool.{true}
 use mathlib.Core.Logic.{_⊎_, _↔_, inl, inr, ⊎-elim}
 use mathlib.Core.List.{List, [], _∷_, _++_, List·Memᴰ·head}
 use native.Mathlib.Omega.{arith}
 use lib.Dec.{lit<, lit≤}
-use lib.ListN.{length, take, drop, replicate}
+use lib.ListN.{length, getD, take, drop, replicate}
 use Rattle.page.specs.Size.{pagesFor, pageCount, pageAt}
 use Rattle.page.specs.Bytes.{numberAt, bytesOf}
 use Rattle.page.specs.Mark.{markAt}
 use Rattle.page.specs.Entry.{lengthAt, idAt, entryAt}
 use Rattle.page.specs.Data.{placeOf, dataOf, dataAt}
-use Rattle.page.specs.Write.{blank, firstPage, laterPage, laterPages, laterImage, entryPages, entryImage}
+use Rattle.page.specs.Write.{filled, firstPage, laterPage, laterPages, entryPages}
 use Rattle.log.specs.Round.{stop, again}
 use Rattle.log.specs.Bounds.{tooLong, badState, Fits}
-use Rattle.log.specs.State.{stateOf, takeOf}
+use Rattle.log.specs.State.{fresh, stateOf, takeOf}
 use Rattle.demands.specs.Sound.{Start, SoundStore, Last}
-use Rattle.demands.specs.Push.{logAfter, Holds}
+use Rattle.demands.specs.Push.{logAfter, Holds, Push, dataIn, pagesOf, AlikeFrom}
 use Rattle.demands.specs.Recovery.{RightRecovery}
 use Rattle.demands.specs.Lookup.{present, missing, RightStanding, Room, RightLookup, AnyGuess, stops, narrows}
 use Rattle.demands.specs.Scan.{Enough, Scans}
@@ -45,6 +47,7 @@ use Rattle.demands.specs.History.{World, world, logOf, Words, Call, push, take-
 use Rattle.page.proofs.Runs.{data-one-part}
 use Rattle.demands.proofs.Check.Passing.{checked-sound}
 use Rattle.demands.proofs.Push.Batch.{push-right, push-whole}
+use Rattle.demands.proofs.Push.Alone.{pages-alone, earlier-hidden, filling-written}
 use Rattle.demands.proofs.Recovery.Resuming.{recover-right, recover-alike}
 use Rattle.demands.proofs.History.Lasting.{standingData}
 use Rattle.demands.proofs.Lookup.AnyGuess.{any-guess-right}
@@ -72,14 +75,14 @@ twoPages = replicate 1013 9
 
 -- and two pages of room
 abbrev pub store : List ℕ
-store = entryPages blank 1 oneByte ++ (replicate 1024 0 ++ (entryPages blank 3 twoPages ++ replicate 2048 0))
+store = entryPages 1 oneByte ++ (replicate 1024 0 ++ (entryPages 3 twoPages ++ replicate 2048 0))
 
 pub empty-is-sound : SoundStore [] 0
 unfolding tooLong checkEnd checkFrom checkOf
 empty-is-sound = checked-sound [] 0 .0 refl
 
 pub store-is-sound : SoundStore store 4096
-unfolding pagesFor pageAt numberAt bytesOf markAt lengthAt idAt entryAt blank firstPage laterPage laterPages entryPages tooLong laterMarks checkStart checkPage checkEnd checkFrom checkOf
+unfolding pagesFor pageAt numberAt bytesOf markAt lengthAt idAt entryAt filled firstPage laterPage laterPages entryPages tooLong laterMarks checkStart checkPage checkEnd checkFrom checkOf
 store-is-sound = checked-sound store 4096 .0 refl
 
 -- ---- its recovered state
@@ -88,11 +91,11 @@ abbrev pub begins : World
 begins = world store (stateOf 4096 3 4)
 
 begins-there : Begun begins
-unfolding pagesFor pageAt numberAt bytesOf markAt lengthAt idAt entryAt blank firstPage laterPage laterPages entryPages tooLong atLast walkBack recoverLog recoverOf
+unfolding pagesFor pageAt numberAt bytesOf markAt lengthAt idAt entryAt filled firstPage laterPage laterPages entryPages tooLong atLast walkBack recoverLog recoverOf
 begins-there = record { size = 4096; sound = store-is-sound .sound; excess = 0; is = refl }
 
 starts-there : (p : ℕ) → Start (logOf begins) p → (p ≡ 0) ⊎ (p ≡ 2)
-unfolding pagesFor pageAt bytesOf markAt blank firstPage laterPage laterPages entryPages
+unfolding pagesFor pageAt bytesOf markAt filled firstPage laterPage laterPages entryPages
 starts-there zero h = inl refl
 starts-there (suc zero) h = absurd (let y : _≡_ {A = ℕ} 0 1 = h .marked in omega arith)
 starts-there (suc (suc zero)) h = inr refl
@@ -100,14 +103,14 @@ starts-there (suc (suc (suc zero))) h = absurd (let y : _≡_ {A = ℕ} 0 1 = h 
 starts-there (suc (suc (suc (suc p)))) h = absurd (let i : suc (suc (suc (suc p))) < 4 = h .inside in omega arith)
 
 last-there : Last (logOf begins) 2
-unfolding pagesFor pageAt bytesOf markAt blank firstPage laterPage laterPages entryPages
+unfolding pagesFor pageAt bytesOf markAt filled firstPage laterPage laterPages entryPages
 last-there = record {
   start = record { inside = lit< tt; marked = refl };
   none = λ q h. ⊎-elim (λ e. omega arith) (λ e. omega arith) (starts-there q h);
 }
 
 three-is : idAt (logOf begins) 2 ≡ 3
-unfolding pagesFor pageAt numberAt bytesOf idAt blank firstPage laterPage laterPages entryPages
+unfolding pagesFor pageAt numberAt bytesOf idAt filled firstPage laterPage laterPages entryPages
 three-is = refl
 
 settled-there : (id : ℕ) → 1 ≤ id → id ≤ 3 → Settled begins id
@@ -116,22 +119,22 @@ settled-there id some most = begun-settled begins begins-there 2 id last-there s
 -- ---- id 3 is found and id 2 is absent, through any calls
 
 pub three-stays-found : (later : List Call) (out : List ℕ) → 1013 ≤ length out → LooksUp (answer (run begins later) (lookup 3 out)) (present 2048 1013) (replicate 1013 9 ++ drop 1013 out)
-unfolding pagesFor pageAt numberAt bytesOf markAt lengthAt idAt entryAt placeOf dataOf dataAt blank firstPage laterPage laterPages entryPages tooLong badState leastFrom leastShift offsetOf compared sayingAt turned walk search searchOf findOf standingData settled run
+unfolding pagesFor pageAt numberAt bytesOf markAt lengthAt idAt entryAt placeOf dataOf dataAt filled firstPage laterPage laterPages entryPages tooLong badState leastFrom leastShift offsetOf compared sayingAt turned walk search searchOf findOf standingData settled run
 three-stays-found later out enough = settled begins begins-there [] 3 (settled-there 3 (lit≤ tt) (lit≤ tt)) .kept later .answers (lookup 3 out) refl enough
 
 pub two-stays-absent : (later : List Call) (out : List ℕ) → LooksUp (answer (run begins later) (lookup 2 out)) (missing 2048) out
-unfolding pagesFor pageAt numberAt bytesOf markAt lengthAt idAt entryAt blank firstPage laterPage laterPages entryPages tooLong badState leastFrom leastShift offsetOf compared sayingAt turned walk search searchOf findOf standingData settled run
+unfolding pagesFor pageAt numberAt bytesOf markAt lengthAt idAt entryAt filled firstPage laterPage laterPages entryPages tooLong badState leastFrom leastShift offsetOf compared sayingAt turned walk search searchOf findOf standingData settled run
 two-stays-absent later out = settled begins begins-there [] 2 (settled-there 2 (lit≤ tt) (lit≤ tt)) .kept later .answers (lookup 2 out) refl (omega arith)
 
 -- a find that is among the later calls gave it
 pub three-was-given : Gives (find 3) (answer begins (find 3)) 3 (present 2048 1013) (replicate 1013 9)
-unfolding pagesFor pageAt numberAt bytesOf markAt lengthAt idAt entryAt placeOf dataOf dataAt blank firstPage laterPage laterPages entryPages tooLong badState leastFrom leastShift offsetOf compared sayingAt turned walk search searchOf findOf standingData settled run said
+unfolding pagesFor pageAt numberAt bytesOf markAt lengthAt idAt entryAt placeOf dataOf dataAt filled firstPage laterPage laterPages entryPages tooLong badState leastFrom leastShift offsetOf compared sayingAt turned walk search searchOf findOf standingData settled run said
 three-was-given = settled begins begins-there [] 3 (settled-there 3 (lit≤ tt) (lit≤ tt)) .gave (find 3 ∷ []) (record { call = find 3; reply = answer begins (find 3) }) (List·Memᴰ·head refl)
 
 -- ---- a lookup and a scan of that log, each with enough output
 
 three-fits : (out : List ℕ) → 1013 ≤ length out → Room (logOf begins) 3 out
-unfolding pagesFor pageAt numberAt bytesOf markAt lengthAt idAt blank firstPage laterPage laterPages entryPages
+unfolding pagesFor pageAt numberAt bytesOf markAt lengthAt idAt filled firstPage laterPage laterPages entryPages
 three-fits out enough position len stored = ⊎-elim
     (λ e. absurd (let y : _≡_ {A = ℕ} 1 3 = rw e at (stored .has) in omega arith))
     (λ e. let y : len ≡ 1013 = rw e at (stored .size) in omega arith)
@@ -144,11 +147,11 @@ abbrev every : Range
 every = record { lower = Open; upper = Open }
 
 all-fit : Enough (logOf begins) every 1013
-unfolding pagesFor pageAt numberAt bytesOf markAt lengthAt blank firstPage laterPage laterPages entryPages
+unfolding pagesFor pageAt numberAt bytesOf markAt lengthAt filled firstPage laterPage laterPages entryPages
 all-fit p start inside = ⊎-elim (λ e. rw e (lit≤ tt)) (λ e. rw e (lit≤ tt)) (starts-there p start)
 
 pub first-reached : holdsOf every (idAt (logOf begins) 0) ≡ true
-unfolding pagesFor pageAt numberAt bytesOf markAt lengthAt idAt entryAt blank firstPage laterPage laterPages entryPages holdsOf stepStart stepPage forward forwardFrom
+unfolding pagesFor pageAt numberAt bytesOf markAt lengthAt idAt entryAt filled firstPage laterPage laterPages entryPages holdsOf stepStart stepPage forward forwardFrom
 first-reached = reached-inside (logOf begins) every 0 0 1 1 1 refl
 
 pub all-scanned : Scans store (begins .state) every 1013 (scanOf store (begins .state) every)
@@ -157,11 +160,11 @@ all-scanned = scan-right store (begins .state) every 1013 store-is-sound all-fit
 -- ---- a length that is no multiple of 1,024: the lookup and the step are refused, and leave the output
 
 pub lookup-kept : (out : List ℕ) → lookupOf store (stateOf 1 0 1) 1 out .out ≡ out
-unfolding bytesOf pagesFor blank firstPage laterPage laterPages entryPages tooLong badState findOf handFound lookupOf
+unfolding bytesOf pagesFor filled firstPage laterPage laterPages entryPages tooLong badState findOf handFound lookupOf
 lookup-kept out = refused-lookup-keeps store (stateOf 1 0 1) 1 out 1 0 refl
 
 pub step-kept : (out : List ℕ) → stepOf store (stateOf 1 0 1) every 0 out .out ≡ out
-unfolding bytesOf pagesFor blank firstPage laterPage laterPages entryPages tooLong badState stepOf
+unfolding bytesOf pagesFor filled firstPage laterPage laterPages entryPages tooLong badState stepOf
 step-kept out = refused-step-keeps store (stateOf 1 0 1) every 0 out 1 0 refl
 
 -- ---- 5 is pushed with a byte: from the recovered state, and once two ids are taken, when it reads back through any later calls
@@ -177,22 +180,22 @@ abbrev pushes-five : Call
 pushes-five = push (5 ∷ []) (1 ∷ []) (8 ∷ []) one-word
 
 pub five-is-held : Holds (logAfter (pushOf store (begins .state) (5 ∷ []) (1 ∷ []) (8 ∷ []))) 5 (8 ∷ [])
-unfolding pagesFor pageAt bytesOf blank firstPage laterPage laterPages laterImage entryPages entryImage tooLong badState entryData some badEnd badBatch largeData someLarge wrote writing turn entriesFrom pushOf
+unfolding pagesFor pageAt bytesOf filled firstPage laterPage laterPages entryPages tooLong badState entryData some badEnd badBatch largeData someLarge wrote writing turn entriesFrom pushOf
 five-is-held = push-right (5 ∷ []) (1 ∷ []) (8 ∷ []) one-word store (begins .state) (begun-lives begins begins-there) .held 0 (lit< tt)
 
 pub all-written : pushOf store (begins .state) (5 ∷ []) (1 ∷ []) (8 ∷ []) .answer .written ≡ 1
-unfolding pagesFor pageAt bytesOf blank firstPage laterPage laterPages laterImage entryPages entryImage tooLong badState entryData some badEnd badBatch largeData someLarge wrote writing turn entriesFrom pushOf
+unfolding pagesFor pageAt bytesOf filled firstPage laterPage laterPages entryPages tooLong badState entryData some badEnd badBatch largeData someLarge wrote writing turn entriesFrom pushOf
 all-written = push-whole (5 ∷ []) (1 ∷ []) (8 ∷ []) store (begins .state) refl
 
 abbrev pushed-five : World
 pushed-five = step (run begins takes) pushes-five
 
 pub five-reads-back : ReadsBack pushed-five 5 (8 ∷ [])
-unfolding pagesFor pageAt bytesOf blank firstPage laterPage laterPages laterImage entryPages entryImage tooLong badState takeOf entryData some badEnd badBatch largeData someLarge wrote writing turn entriesFrom pushOf answer step run
+unfolding pagesFor pageAt bytesOf filled firstPage laterPage laterPages entryPages tooLong badState takeOf entryData some badEnd badBatch largeData someLarge wrote writing turn entriesFrom pushOf answer step run
 five-reads-back = read-back begins begins-there takes (5 ∷ []) (1 ∷ []) (8 ∷ []) one-word 0 (lit< tt)
 
 five-settled : Settled pushed-five 5
-unfolding pagesFor pageAt numberAt markAt idAt bytesOf blank firstPage laterPage laterPages laterImage entryPages entryImage tooLong badState takeOf entryData some badEnd badBatch largeData someLarge wrote writing turn entriesFrom pushOf answer step run
+unfolding pagesFor pageAt numberAt markAt idAt bytesOf filled firstPage laterPage laterPages entryPages tooLong badState takeOf entryData some badEnd badBatch largeData someLarge wrote writing turn entriesFrom pushOf answer step run
 five-settled = record {
   some = lit≤ tt;
   below = lit< tt;
@@ -205,18 +208,53 @@ pub five-stays-read : (later : List Call) → Answers (run pushed-five later) 5 
 unfolding run
 five-stays-read later = five-reads-back .reads later (settled begins begins-there (take-id ∷ take-id ∷ pushes-five ∷ []) 5 five-settled .kept later .settled .below)
 
+-- ---- the pages of 5 are the same wherever it is pushed
+
+-- after 4 with three bytes, in one push from fresh, over pages that hold 255
+abbrev pub after-nines : Push
+after-nines = record { store = replicate 3072 255; state = fresh; ids = 4 ∷ 5 ∷ []; ends = 3 ∷ 4 ∷ []; bytes = 9 ∷ 9 ∷ 9 ∷ 8 ∷ [] }
+
+-- after 4 with another byte
+abbrev after-six : Push
+after-six = record { store = replicate 3072 255; state = fresh; ids = 4 ∷ 5 ∷ []; ends = 1 ∷ 2 ∷ []; bytes = 6 ∷ 8 ∷ [] }
+
+-- by itself, after the log above
+abbrev by-itself : Push
+by-itself = record { store = store; state = begins .state; ids = 5 ∷ []; ends = 1 ∷ []; bytes = 8 ∷ [] }
+
+pub five-alike : pagesOf after-nines 1 ≡ pagesOf by-itself 0
+unfolding pagesFor pageAt bytesOf filled firstPage laterPage laterPages entryPages tooLong badState entryData some badEnd badBatch largeData someLarge wrote writing turn entriesFrom pushOf
+five-alike = pages-alone after-nines by-itself 1 0 (lit< tt) (lit< tt) refl refl
+
+pub five-filled : getD (pagesOf after-nines 1) 13 0 ≡ 0
+unfolding pagesFor pageAt bytesOf filled firstPage laterPage laterPages entryPages tooLong badState entryData some badEnd badBatch largeData someLarge wrote writing turn entriesFrom pushOf placeOf
+five-filled = filling-written after-nines 1 (lit< tt) 1 (lit≤ tt)
+
+same-data : (i : ℕ) → dataIn after-nines (1 + i) ≡ dataIn after-six (1 + i)
+unfolding entryData
+same-data zero = refl
+same-data (suc zero) = refl
+same-data (suc (suc i)) = let e : 1 + suc (suc i) ≡ suc (suc (suc i)) = omega arith in rw e
+
+alike-from-five : AlikeFrom after-nines after-six 1 1
+alike-from-five = record { same-id = λ i. refl; same-data = same-data }
+
+pub nines-hidden : pagesOf after-nines 1 ≡ pagesOf after-six 1
+unfolding pagesFor pageAt bytesOf filled firstPage laterPage laterPages entryPages tooLong badState entryData some badEnd badBatch largeData someLarge wrote writing turn entriesFrom pushOf
+nines-hidden = earlier-hidden after-nines after-six 1 1 alike-from-five 0 (lit< tt) (lit< tt)
+
 -- ---- guesses that are not the rule's come to the same answer: the first of all pages, and then the last of those left
 
 first-round : roundFrom (logOf begins) 3 (allPages (logOf begins) 4) 0 ≡ again (window 1 4 1 4)
-unfolding pagesFor pageAt numberAt bytesOf markAt lengthAt idAt entryAt blank firstPage laterPage laterPages entryPages compared sayingAt turned walk
+unfolding pagesFor pageAt numberAt bytesOf markAt lengthAt idAt entryAt filled firstPage laterPage laterPages entryPages compared sayingAt turned walk
 first-round = refl
 
 second-round : roundFrom (logOf begins) 3 (window 1 4 1 4) 3 ≡ stop (found 2048 1013)
-unfolding pagesFor pageAt numberAt bytesOf markAt lengthAt idAt entryAt blank firstPage laterPage laterPages entryPages compared sayingAt turned walk
+unfolding pagesFor pageAt numberAt bytesOf markAt lengthAt idAt entryAt filled firstPage laterPage laterPages entryPages compared sayingAt turned walk
 second-round = refl
 
 some-pages : 0 < pageCount (logOf begins)
-unfolding pagesFor bytesOf blank firstPage laterPage laterPages entryPages
+unfolding pagesFor bytesOf filled firstPage laterPage laterPages entryPages
 some-pages = lit< tt
 
 pub other-guesses : AnyGuess (logOf begins) 3 (allPages (logOf begins) 4) (found 2048 1013)
@@ -228,11 +266,11 @@ other-guesses-right = any-guess-right (logOf begins) (store-is-sound .sound) 3 4
 -- ---- a length with an excess: 1,030 bytes, of which page 0 holds id 9
 
 nine-sound : SoundStore ninePage 1024
-unfolding pagesFor pageAt numberAt bytesOf markAt lengthAt idAt entryAt blank firstPage laterPage laterPages entryPages tooLong laterMarks checkStart checkPage checkEnd checkFrom checkOf
+unfolding pagesFor pageAt numberAt bytesOf markAt lengthAt idAt entryAt filled firstPage laterPage laterPages entryPages tooLong laterMarks checkStart checkPage checkEnd checkFrom checkOf
 nine-sound = checked-sound ninePage 1024 .0 refl
 
 nine-fits : Fits ninePage 1030
-unfolding pagesFor bytesOf blank firstPage laterPage laterPages entryPages
+unfolding pagesFor bytesOf filled firstPage laterPage laterPages entryPages
 nine-fits = record { small = nine-sound .fits .small; inside = lit≤ tt }
 
 pub excess-recovers : RightRecovery (take 1024 ninePage) 6 (recoverOf ninePage 1030)
@@ -241,14 +279,14 @@ excess-recovers = recover-right ninePage 1030 nine-fits (nine-sound .sound)
 -- ---- a log whose first entry has another byte recovers alike: it agrees from page 2 on, where the last entry starts
 
 abbrev pub other : List ℕ
-other = entryPages blank 1 (6 ∷ []) ++ drop 1024 store
+other = entryPages 1 (6 ∷ []) ++ drop 1024 store
 
 fits-there : Fits other 4096
-unfolding pagesFor bytesOf blank firstPage laterPage laterPages entryPages
+unfolding pagesFor bytesOf filled firstPage laterPage laterPages entryPages
 fits-there = record { small = lit≤ tt; inside = lit≤ tt }
 
 same-from-there : drop 2048 (cutLog store 4096) ≡ drop 2048 (cutLog other 4096)
-unfolding pagesFor bytesOf blank firstPage laterPage laterPages entryPages
+unfolding pagesFor bytesOf filled firstPage laterPage laterPages entryPages
 same-from-there = refl
 
 pub recovers-alike : recoverOf store 4096 ≡ recoverOf other 4096
@@ -257,7 +295,7 @@ recovers-alike = recover-alike store other 4096 2 (store-is-sound .fits) fits-th
 -- ---- the data of the entry on that page of id 9 is a part of the log
 
 pub five-bytes : dataAt ninePage 0 5 ≡ take 5 (drop 12 ninePage)
-unfolding pagesFor bytesOf blank firstPage laterPage laterPages entryPages
+unfolding pagesFor bytesOf filled firstPage laterPage laterPages entryPages
 five-bytes = data-one-part ninePage 0 5 (lit≤ tt) (lit< tt)
 
 -- ---- a sequence from 1, over words that are not zero

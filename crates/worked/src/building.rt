@@ -26,8 +26,7 @@ fn put(store: &mut [u8], p: usize, id: u64, bytes: &[u8]) {
         return;
     }
     let at = p * Page::SIZE;
-    let mut image = Page::blank();
-    page::write_entry(&mut store[at..], &mut image, id, bytes);
+    page::write_entry(&mut store[at..], id, bytes);
 }
 
 // "put PAGE ID WORD": an entry whose data is a word.

@@ -2,6 +2,7 @@
 use crate::say;
 use page::Page;
 ghost use mathlib.Core.Path.{_≡_};
+ghost use Prim.Native.Nat.{_≤_};
 ghost use lib.ListN.{length};
 
 fn count(n: usize) {
@@ -19,33 +20,32 @@ fn marked_page() -> [u8; 1024]
     [0xff; 1024]
 }
 
-// How many bytes are zero.
-fn zeros(bytes: &[u8]) -> u64 {
-    let mut count: u64 = 0;
-    let mut i: usize = 0;
-    while i < bytes.len() {
-        if bytes[i] == 0 {
-            count += 1;
+// One past the last byte that is not zero.
+fn used(bytes: &[u8]) -> usize
+    ensures { λ r. ⌜ r ≤ length (now (bytes .entry)) ⌝ }
+{
+    let mut n = bytes.len();
+    while 0 < n {
+        if bytes[n - 1] != 0 {
+            return n;
         }
-        i += 1;
+        n -= 1;
     }
-    count
+    n
 }
 
-// The bytes of a page up to the end of "hello", and how many zeros come after them.
+// The bytes of a page up to the last that is not zero, and how many zeros come after them.
 pub fn show(page: &[u8]) {
-    if 17 <= page.len() {
-        say::bytes(&page[..17]);
-        say::one(b"and # zeros\n", zeros(&page[17..]));
-    }
+    let n = used(page);
+    say::bytes(&page[..n]);
+    say::one(b"and # zeros\n", (page.len() - n) as u64);
 }
 
 fn hello_and_none() {
     let mut first = marked_page();
     let mut second = marked_page();
-    let mut image = Page::blank();
-    page::write_entry(&mut first, &mut image, 1, b"hello");
-    page::write_entry(&mut second, &mut image, 2, b"");
+    page::write_entry(&mut first, 1, b"hello");
+    page::write_entry(&mut second, 2, b"");
     say::text(b"the page of (1, hello): ");
     show(&first);
     say::text(b"the page of (2, none) after it: ");

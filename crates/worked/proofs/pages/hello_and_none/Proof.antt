@@ -1,10 +1,6 @@
--- `hello_and_none` is safe: each entry takes one page, and the image is a page. Assumes nothing.
-use mathlib.Core.Path.{ap, _∙_}
-use lib.ListN.{length}
-use Rattle.page.proofs.Counting.{pages-linear}
-use Rattle.page.proofs.Written.{length-blank}
+-- `hello_and_none` is safe: each entry takes one page. Assumes nothing.
 use native.Mathlib.Omega.{arith}
-use lib.ListN.{length}
+use Rattle.page.proofs.Counting.{pages-linear}
 use borrow.Author.Needs.{needs}
 use Rattle.worked.proofs.pages.hello_and_none.Statement.{statement}
 use Rattle.worked.proofs.pages.hello_and_none.Tie as tie
@@ -15,32 +11,23 @@ marked-page-requires c κs = search needs
 marked-page-requires-2 : tie.Need-marked-page-requires-2
 marked-page-requires-2 c κs = search needs
 
-blank-requires : tie.Need-blank-requires
-blank-requires c κs = search needs
-
 slice-aggregate-write-entry : tie.Need-slice-aggregate-write-entry
 slice-aggregate-write-entry c = search needs
 
 slice-aggregate-write-entry-2 : tie.Need-slice-aggregate-write-entry-2
 slice-aggregate-write-entry-2 c = search needs
 
+write-entry-requires : tie.Need-write-entry-requires
+write-entry-requires c κs = omega (arith, pages-linear 13)
+
 slice-aggregate-write-entry-3 : tie.Need-slice-aggregate-write-entry-3
 slice-aggregate-write-entry-3 c = search needs
-
-write-entry-requires : tie.Need-write-entry-requires
-write-entry-requires c κs = let p = pages-linear 13 in (omega arith, ap length (c .before .before .before .blank .ensures) ∙ length-blank, omega arith)
 
 slice-aggregate-write-entry-4 : tie.Need-slice-aggregate-write-entry-4
 slice-aggregate-write-entry-4 c = search needs
 
-slice-aggregate-write-entry-5 : tie.Need-slice-aggregate-write-entry-5
-slice-aggregate-write-entry-5 c = search needs
-
-slice-aggregate-write-entry-6 : tie.Need-slice-aggregate-write-entry-6
-slice-aggregate-write-entry-6 c = search needs
-
 write-entry-requires-2 : tie.Need-write-entry-requires-2
-write-entry-requires-2 c κs = let p = pages-linear 8 in (omega arith, search needs, omega arith)
+write-entry-requires-2 c κs = omega (arith, pages-linear 8)
 
 slice-aggregate-text : tie.Need-slice-aggregate-text
 slice-aggregate-text c = search needs
@@ -75,14 +62,11 @@ hello-and-none-spec =
     (tie.spec
     marked-page-requires
     marked-page-requires-2
-    blank-requires
     slice-aggregate-write-entry
     slice-aggregate-write-entry-2
-    slice-aggregate-write-entry-3
     write-entry-requires
+    slice-aggregate-write-entry-3
     slice-aggregate-write-entry-4
-    slice-aggregate-write-entry-5
-    slice-aggregate-write-entry-6
     write-entry-requires-2
     slice-aggregate-text
     text-requires
