@@ -24,10 +24,10 @@ fn put(dst: &mut [u8], src: &[u8])
 fn clear(part: &mut [u8])
     ensures { λ _. ⌜ now (part .exit) ≡ replicate (length (now (part .entry))) 0 ⌝ }
 {
-    let mut i = 0;
-    while i < part.len() {
-        part[i] = 0;
-        i += 1;
+    let mut cleared = 0;
+    while cleared < part.len() {
+        part[cleared] = 0;
+        cleared += 1;
     }
 }
 

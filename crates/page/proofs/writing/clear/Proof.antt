@@ -1,4 +1,4 @@
--- `clear` meets its contract. The invariant: the first i bytes are zeros and the rest is what it was. Assumes nothing.
+-- `clear` meets its contract. The invariant: what is cleared is zeros, and the rest is what it was. Assumes nothing.
 use Prim.Native.Nat.{_-_}
 use native.Mathlib.Omega.{arith}
 use borrow.Author.Needs.{needs}
@@ -8,10 +8,10 @@ use Rattle.page.proofs.writing.clear.Statement.{statement}
 use Rattle.page.proofs.writing.clear.Tie as tie
 
 abbrev Inv-loop : tie.InvT-loop
-Inv-loop part₀ i₀ part i = ClearLoop part₀ part i
+Inv-loop part₀ cleared₀ part cleared = ClearLoop part₀ part cleared
 
 abbrev μ-loop : tie.MeasureT-loop
-μ-loop part₀ i₀ part i = length part - i
+μ-loop part₀ cleared₀ part cleared = length part - cleared
 
 loop-holds : tie.Need-loop-holds Inv-loop μ-loop
 loop-holds c = clear-begins _ _ (omega arith)
@@ -19,8 +19,8 @@ loop-holds c = clear-begins _ _ (omega arith)
 slice-write-part : tie.Need-slice-write-part Inv-loop μ-loop
 slice-write-part c = search needs
 
-add-i : tie.Need-add-i Inv-loop μ-loop
-add-i c = omega arith
+add-cleared : tie.Need-add-cleared Inv-loop μ-loop
+add-cleared c = omega arith
 
 loop-less : tie.Need-loop-less Inv-loop μ-loop
 loop-less c = simp length-set (omega arith)
@@ -42,7 +42,7 @@ clear-spec =
     μ-loop
     loop-holds
     slice-write-part
-    add-i
+    add-cleared
     loop-less
     loop-again
     same-length
