@@ -1,7 +1,7 @@
 -- An entry's first page: its 12 bytes of mark, length and id, then as much of the data as it holds. Assumes nothing.
 use mathlib.Core.Path.{_≡_, refl, sym, ap, _∙_}
 use mathlib.Core.List.{List, _∷_, _++_, append-assoc}
-use Prim.Native.Nat.{ℕ, _+_, _-_, _≤_}
+use Prim.Native.Nat.{ℕ, _+_, _-_}
 use native.Mathlib.Omega.{arith}
 use lib.ListN.{length, take, drop, length-append, length-take}
 use Rattle.page.specs.Size.{pageSize, firstPayload, dataStart, firstData, idSize, lengthSize}

@@ -1,11 +1,11 @@
 -- Laws of parts of lists: a part lent, and what was put over its front, said of the whole. Assumes nothing.
-use mathlib.Core.Path.{_≡_, refl, sym, ap, _∙_}
-use mathlib.Core.List.{List, [], _∷_, _++_, append-assoc, append-nil}
-use Prim.Native.Nat.{ℕ, _+_, _-_, _<_, _≤_, min}
+use mathlib.Core.Path.{_≡_, sym, ap, _∙_}
+use mathlib.Core.List.{List, [], _++_, append-assoc, append-nil}
+use Prim.Native.Nat.{ℕ, _+_, _-_, _≤_, min}
 use native.Mathlib.Nat.{lt-of-not-le, min-eq-left, min-eq-right, le-of-lt}
 use native.Mathlib.Decide.{decLe}
 use native.Mathlib.Omega.{arith}
-use lib.ListN.{length, take, drop, set, length-drop, length-append, drop-of-length-le}
+use lib.ListN.{length, take, drop, length-drop, length-append, drop-of-length-le}
 use lib.Seq.{take-all, drop-drop, take-at, drop-at}
 use Rattle.page.specs.Write.{overwritten}
 
@@ -26,11 +26,6 @@ take-min k l = elim (decLe (length l) k) [ yes h ↦ rw (take-all k l h) (take-a
 
 pub overwritten-length : (old new : List ℕ) → length new ≤ length old → length (overwritten old new) ≡ length old
 overwritten-length old new h = simp (length-append, length-drop) (omega arith)
-
--- one byte put first
-pub overwritten-first : (l : List ℕ) (b : ℕ) → 0 < length l → set l 0 b ≡ overwritten l (b ∷ [])
-overwritten-first [] b h = absurd (omega arith)
-overwritten-first (x ∷ l) b h = refl
 
 -- B put after A, which was put over the front of s
 pub overwritten-more : (s p A B ys : List ℕ) (n : ℕ) → p ≡ overwritten s A → length A ≡ n → ys ≡ overwritten (take (length p - n) (drop n p)) B

@@ -13,7 +13,7 @@ use Rattle.page.proofs.Joining.{length-entry}
 use Rattle.page.proofs.Written.{filling-zero}
 use Rattle.pushing.specs.Push.{entryData, bytesFor, Done, pushOf}
 use Rattle.log.specs.declared.state.State.{State}
-use Rattle.demands.specs.Push.{batchPages, logAfter, Push, idIn, dataIn, outcome, Counted, beginsAt, pagesOf, AlikeFrom}
+use Rattle.demands.specs.Push.{batchPages, Push, idIn, dataIn, outcome, Counted, beginsAt, pagesOf, AlikeFrom}
 use Rattle.demands.proofs.Push.Ways.{by-batch}
 use Rattle.demands.proofs.Push.Batch.{push-grows}
 

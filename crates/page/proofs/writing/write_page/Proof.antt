@@ -1,5 +1,4 @@
 -- `write_page` meets its contract: what comes before the data, the data that fits, and zeros. Assumes nothing.
-use mathlib.Core.Path.{refl}
 use native.Mathlib.Omega.{arith}
 use borrow.Author.Needs.{needs}
 use lib.ListN.{length-take, length-drop}
