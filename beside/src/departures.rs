@@ -1,7 +1,7 @@
 //! Why the Rust departs: each departure is an entry of docs/DIFFERENCES.md, told by its cause, not its answer alone.
 use nebari::transaction::log::probe::guess;
 
-use crate::{rust::caught, Held, Looked, Pair, PAGE};
+use crate::{layout, rust::caught, Entry, Held, Looked, Pair, PAGE};
 
 /// An entry of docs/DIFFERENCES.md that explains a disagreement on the compared domain.
 #[derive(Clone, Copy, Debug, PartialEq, Eq, PartialOrd, Ord)]
@@ -10,6 +10,7 @@ pub enum Departure {
     IdlePages,
     FarApart,
     AbsentPosition,
+    StaleFilling,
     NoRoom,
     LowNote,
     WideNote,
@@ -18,11 +19,12 @@ pub enum Departure {
 }
 
 impl Departure {
-    pub const ALL: [Departure; 9] = [
+    pub const ALL: [Departure; 10] = [
         Departure::LaterPages,
         Departure::IdlePages,
         Departure::FarApart,
         Departure::AbsentPosition,
+        Departure::StaleFilling,
         Departure::NoRoom,
         Departure::LowNote,
         Departure::WideNote,
@@ -37,6 +39,7 @@ impl Departure {
             Departure::IdlePages => "A stored id is lost behind idle pages",
             Departure::FarApart => "Ids far apart overflow the page product",
             Departure::AbsentPosition => "The position of an absent id",
+            Departure::StaleFilling => "Bytes of an earlier page after the payload",
             Departure::NoRoom => "A store has an end",
             Departure::LowNote => "An id noted below the start",
             Departure::WideNote => "An id noted outside the window",
@@ -128,11 +131,17 @@ pub fn of_scan(pair: &Pair, lower: Option<u64>, rust_panic: Option<&str>) -> Opt
     (cfg!(debug_assertions) && overflowed && rust_panic?.contains("with overflow")).then_some(Departure::FarApart)
 }
 
+/// The departure for the pages that the Rust has of the entries of one push, if they are not as the rules lay them out:
+/// its page image was kept, so each byte of the filling is the one that the page before has at that place.
+pub fn of_written(written: &[Entry], rust: &[u8]) -> Option<Departure> {
+    (rust == layout::stale(written)).then_some(Departure::StaleFilling)
+}
+
 /// A departure names its cause and nothing else: answers that no cause explains stay without a name.
 #[cfg(test)]
 mod tests {
     use super::*;
-    use crate::{Entry, Tally};
+    use crate::Tally;
 
     fn dense_log() -> Pair {
         let mut pair = Pair::with_capacity(8);
@@ -176,5 +185,61 @@ mod tests {
         assert_eq!(of_lookup(&pair, 2, &panic, &pair.truth(2)), None);
         assert_eq!(of_scan(&pair, Some(2), Some("attempt to multiply with overflow")), None);
         assert_eq!(of_scan(&pair, None, None), None);
+    }
+
+    /// Entries of two pages and of one: page 1 keeps bytes of page 0, page 2 of both.
+    fn stale_log() -> (Pair, [Entry; 2]) {
+        let mut pair = Pair::with_capacity(4);
+        let batch = [Entry { id: 1, data: vec![0x61; 1_030] }, Entry { id: 2, data: vec![0x62] }];
+        let mut tally = Tally::default();
+        pair.push(&batch, &mut tally);
+        assert_eq!(tally.times(Departure::StaleFilling), 1);
+        (pair, batch)
+    }
+
+    /// What the comparison of its pages says once they are changed.
+    fn said_of(change: impl Fn(&mut Pair)) -> Result<(), String> {
+        let (mut pair, batch) = stale_log();
+        change(&mut pair);
+        caught(|| pair.compare_written(&batch, 0, &mut Tally::default()))
+    }
+
+    #[test]
+    fn any_other_byte_of_the_rusts_pages_has_no_rule() {
+        let (pair, batch) = stale_log();
+        let (ours, rust) = (pair.ours.bytes(), pair.rust.file.bytes.as_slice());
+        assert_eq!(of_written(&batch, rust), Some(Departure::StaleFilling));
+        for at in 0..rust.len() {
+            // Zero, the entries' data, what the page before has there, a bit changed.
+            for byte in [0, 0x61, 0x62, rust[at.saturating_sub(1_024)], rust[at] ^ 1] {
+                let changed = [&rust[..at], &[byte], &rust[at + 1..]].concat();
+                assert_eq!(of_written(&batch, &changed).is_some(), byte == rust[at], "{byte} at {at}");
+            }
+        }
+        // A mark, a length, an id, data, and filling that is neither zero nor the kept byte; zero in one place alone.
+        for (at, byte) in [(1_024, 2), (2_051, 8), (2_059, 1), (12, 0x62), (2_061, 0x63), (2_061, 0)] {
+            let said = said_of(|pair| pair.rust.file.bytes[at] = byte).unwrap_err();
+            assert!(said.starts_with("no departure names it"), "{said}");
+        }
+        // Zeros in all of the filling are no departure.
+        assert_eq!(of_written(&batch, ours), None);
+        assert_eq!(said_of(|pair| pair.rust.file.bytes = pair.ours.bytes().to_vec()), Ok(()));
+        // Filling that was kept from an earlier push is none that a push may leave.
+        let (first, second) = batch.split_at(1);
+        assert_eq!(of_written(second, &rust[2_048..]), None);
+        assert_eq!(of_written(first, &rust[..2_048]), Some(Departure::StaleFilling));
+    }
+
+    #[test]
+    fn any_other_byte_of_our_pages_has_no_rule() {
+        assert_eq!(said_of(|_| ()), Ok(()));
+        let (pair, _) = stale_log();
+        for at in 0..pair.ours.bytes().len() {
+            let said = said_of(|pair| pair.ours.store[at] ^= 1).unwrap_err();
+            assert!(said.starts_with("the library's pages"), "{said}");
+        }
+        // The bytes that the Rust keeps are excused in the Rust's pages only.
+        let said = said_of(|pair| pair.ours.store[..3_072].copy_from_slice(&pair.rust.file.bytes)).unwrap_err();
+        assert!(said.starts_with("the library's pages"), "{said}");
     }
 }

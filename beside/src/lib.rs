@@ -5,6 +5,7 @@
 //! and the Rust, which may depart only by a [`Departure`], an entry of docs/DIFFERENCES.md.
 pub mod chance;
 pub mod departures;
+pub mod layout;
 pub mod ours;
 pub mod pair;
 pub mod replay;

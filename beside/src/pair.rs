@@ -3,8 +3,8 @@ use std::ops::{Bound, RangeBounds};
 
 use awirbesh::lent;
 
-use crate::{departures, ours::Ours, rust::Rust, Departure, Entry, Held, Ids, Looked, PushedBy, RecoveredBy, Scanned};
-use crate::{State, Tally, PAGE};
+use crate::{departures, layout, ours::Ours, rust::Rust};
+use crate::{Departure, Entry, Held, Ids, Looked, PushedBy, RecoveredBy, Scanned, State, Tally, PAGE};
 
 pub struct Pair {
     pub ours: Ours,
@@ -70,30 +70,50 @@ impl Pair {
 
     /// Pushes a batch on both sides and compares the refusal, the count, the state and every byte; the Rust's answer.
     pub fn push(&mut self, batch: &[Entry], tally: &mut Tally) -> PushedBy {
-        let before = self.ours.store.clone();
-        let from = self.ours.state;
+        let (store, file) = (self.ours.store.clone(), self.rust.file.bytes.clone());
+        let from = self.ours.state.length as usize;
         let (by_ours, written) = self.ours.push(batch);
         let by_rust = self.rust.push(batch);
         assert_eq!(by_ours, by_rust, "push of {:?} to {}", ids_of(batch), self.words());
-        assert!(self.ours.bytes() == self.rust.file.bytes, "bytes after a push of {:?}", ids_of(batch));
+        let written = &batch[..written as usize];
+        self.compare_written(written, from, tally);
         let end = self.ours.state.length as usize;
-        assert!(self.ours.store[end..] == before[end..], "bytes past the log changed");
-        self.hold_written(&batch[..written as usize], from.length);
+        assert!(self.ours.store[..from] == store[..from], "bytes of the log changed");
+        assert!(self.ours.store[end..] == store[end..], "bytes past the log changed");
+        assert!(self.rust.file.bytes[..from] == file, "bytes of the Rust's log changed");
+        assert_eq!(self.rust.file.bytes.len(), end, "the Rust's file");
+        self.hold_written(written, from);
         tally.compared("pushes");
         by_rust
     }
 
-    /// Takes the entries that were written into what is known; their pages must be exactly what the log grew by.
-    fn hold_written(&mut self, written: &[Entry], from: u64) {
-        let mut page = from / PAGE;
+    /// Compares the pages that a push has added from a place on: ours, all of them, and as many of the Rust's.
+    pub fn compare_written(&self, written: &[Entry], from: usize, tally: &mut Tally) {
+        let truth = layout::clean(written);
+        assert!(self.ours.bytes()[from..] == truth, "the library's pages of {:?}", ids_of(written));
+        let by_rust = &self.rust.file.bytes[from..from + truth.len()];
+        if by_rust == truth {
+            return;
+        }
+        match departures::of_written(written, by_rust) {
+            Some(departure) => {
+                let data = written.iter().map(|entry| entry.data.len() as u64).sum();
+                let size = (truth.len() as u64, data, written.len() as u64);
+                tally.name(departure, size, || format!("push of {:?}", ids_of(written)));
+            }
+            None => panic!("no departure names it: the Rust's pages of {:?}", ids_of(written)),
+        }
+    }
+
+    /// Takes the entries that were written into what is known.
+    fn hold_written(&mut self, written: &[Entry], from: usize) {
+        let mut page = from as u64 / PAGE;
         for entry in written {
-            let payload = entry.data.len() as u64 + 8;
-            let pages = if payload <= 1020 { 1 } else { 1 + (payload - 1020).div_ceil(1023) };
+            let pages = layout::fronts(entry.id, &entry.data).len() as u64;
             self.walk_back.extend((0..pages).map(|_| self.held.len()));
             self.held.push(Held { id: entry.id, page, pages, data: entry.data.clone() });
             page += pages;
         }
-        assert_eq!(page * PAGE, self.ours.state.length, "the written count is not what the log grew by");
     }
 
     /// The entry that a walk back from a page meets.
@@ -176,11 +196,10 @@ impl Pair {
         }
     }
 
-    /// Recovers the log with some bytes of a part page after it, on both sides. Not for an empty log with an excess,
-    /// nor for the last id of all: there the Rust departs, see docs/DIFFERENCES.md.
+    /// Recovers the log with some bytes of a part page after it, on both sides, each from its own pages and from the
+    /// other's. Not for an empty log with an excess, nor for the last id of all: there the Rust departs, see
+    /// docs/DIFFERENCES.md.
     pub fn compare_recovery(&mut self, excess: &[u8], tally: &mut Tally) {
-        let mut bytes = self.ours.bytes().to_vec();
-        bytes.extend_from_slice(excess);
         let truth = RecoveredBy::At {
             state: match self.held.last() {
                 None => State { length: 0, last: 0, next: 1 },
@@ -188,25 +207,30 @@ impl Pair {
             },
             file: self.state().length,
         };
-        assert_eq!(crate::ours::recover(&bytes), truth, "the library's recovery of {}", self.words());
-        assert_eq!(crate::rust::recover(&bytes), truth, "the Rust's recovery of {}", self.words());
+        for log in [self.ours.bytes(), &self.rust.file.bytes] {
+            let bytes = [log, excess].concat();
+            assert_eq!(crate::ours::recover(&bytes), truth, "the library's recovery of {}", self.words());
+            assert_eq!(crate::rust::recover(&bytes), truth, "the Rust's recovery of {}", self.words());
+        }
         tally.compared("recoveries");
     }
 
-    /// The log is in the compared domain: sound, and every id is below next.
+    /// The log is in the compared domain: sound, with either side's filling, and every id is below next.
     pub fn assert_in_domain(&self) {
         lent::check(&self.ours.store, self.state().length).expect("a sound log");
+        lent::check(&self.rust.file.bytes, self.state().length).expect("a sound log of the Rust's");
         assert!(self.held.iter().all(|held| held.id < self.state().next));
     }
 
     /// Pushes what does not fit into the store: the library refuses 4 there, and the Rust, whose file has no end,
     /// goes on. Up to that entry the two agree.
     pub fn compare_without_room(&mut self, batch: &[Entry], tally: &mut Tally) {
+        let from = self.ours.state.length as usize;
         let (by_ours, written) = self.ours.push(batch);
         let PushedBy::Answered { number: 4, state } = by_ours else { panic!("not refused with 4: {by_ours:?}") };
         let by_rust = self.rust.push(batch);
         assert!(matches!(by_rust, PushedBy::Answered { number: 0, .. }), "{by_rust:?}");
-        assert!(self.rust.file.bytes.starts_with(self.ours.bytes()), "bytes before the refused entry");
+        self.compare_written(&batch[..written as usize], from, tally);
         assert_eq!(state.last, batch[written as usize].id, "4 uses up the id");
         tally.compared("pushes without room");
         let input = || format!("a store of {} bytes, push of {:?}", self.ours.store.len(), ids_of(batch));

@@ -1,6 +1,6 @@
 //! Each entry of docs/DIFFERENCES.md at its smallest input: what the Rust does in this build, and what we do.
 use awirbesh::{lent, IdSequence, Look, Refusal, State};
-use beside::{chance::Chance, ours, rust, Departure, Entry, Looked, Pair, PushedBy, RecoveredBy, Scanned, Tally, PAGE};
+use beside::{ours, rust, Departure, Entry, Looked, Pair, PushedBy, RecoveredBy, Scanned, Tally, PAGE};
 use nebari::transaction::{manager::probe::Sequence, state::probe};
 
 const CHECKED: bool = cfg!(debug_assertions);
@@ -95,6 +95,41 @@ fn the_position_of_an_absent_id() {
     let mut smallest = log_of(&[(1, 8), (0, 0)], 3);
     assert_eq!(smallest.truth(2), Looked::Absent { position: 2_048 });
     assert_eq!(looked(&mut smallest, 2), Looked::Absent { position: 0 });
+}
+
+/// The Rust keeps one page image over a push and begins each push with zeros; the rules want zeros after every payload.
+#[test]
+fn bytes_of_an_earlier_page_after_the_payload() {
+    // The pages on both sides after these pushes; where they differ, it is by the departure.
+    let pushed = |parts: &[&[Entry]]| {
+        let (mut pair, mut tally) = (Pair::with_capacity(2), Tally::default());
+        for part in parts {
+            pair.push(part, &mut tally);
+        }
+        let (ours, rust) = (pair.ours.bytes().to_vec(), pair.rust.file.bytes);
+        assert_eq!(tally.times(Departure::StaleFilling), u64::from(ours != rust));
+        (ours, rust)
+    };
+    let entry = |id: u64, data: &[u8]| Entry { id, data: data.to_vec() };
+
+    let (one, two) = (entry(1, &[0x61]), entry(2, &[]));
+    let (ours, rust) = pushed(&[&[one.clone(), two.clone()]]);
+    let differ: Vec<usize> = (0..2_048).filter(|&at| ours[at] != rust[at]).collect();
+    assert_eq!(differ, [1_024 + 12]);
+    assert_eq!((ours[1_024 + 12], rust[1_024 + 12]), (0, 0x61));
+
+    // In two pushes the pages here are the same as in one, and there the same as here.
+    assert_eq!(pushed(&[&[one], &[two]]), (ours.clone(), ours));
+    // Nothing smaller shows it: no data, data of zeros, the longer entry last.
+    for (first, second) in [(&[][..], &[][..]), (&[0], &[]), (&[], &[0x61])] {
+        let (ours, rust) = pushed(&[&[entry(1, first), entry(2, second)]]);
+        assert_eq!(ours, rust);
+    }
+
+    // One entry of two pages shows it alone: page 1 keeps of page 0 the length, the id and the data.
+    let (ours, rust) = pushed(&[&[entry(1, &[0x61; 1_013])]]);
+    assert_eq!(ours[1_024..], [&[0, 0x61][..], &[0; 1_022]].concat());
+    assert_eq!(rust[1_024..], [&[0, 0x61, 0x03, 0xFD, 0, 0, 0, 0, 0, 0, 0, 1][..], &[0x61; 1_012]].concat());
 }
 
 #[test]
@@ -216,14 +251,4 @@ fn each_departure_names_an_entry() {
         let heading = format!("### {}", departure.heading());
         assert_eq!(text.lines().filter(|line| *line == heading).count(), 1, "{heading}");
     }
-}
-
-/// The filling (docs/RULES.md 1.8) is the Rust's: a shorter entry keeps bytes of the longer one before it in the batch.
-#[test]
-fn stale_bytes_are_the_same() {
-    let mut pair = Pair::with_capacity(8);
-    let long = Entry { id: 1, data: Chance::new(1).bytes(2_000) };
-    let short = Entry { id: 2, data: Vec::new() };
-    pair.push(&[long, short], &mut Tally::default());
-    assert!(pair.ours.bytes()[2_048 + 12..3_072].iter().any(|&byte| byte != 0));
 }

@@ -107,7 +107,8 @@ fn random_logs() {
         tally.compared("logs");
     }
     tally.print("random logs");
-    for departure in [Departure::LaterPages, Departure::IdlePages, Departure::AbsentPosition] {
+    use Departure::{AbsentPosition, IdlePages, LaterPages, StaleFilling};
+    for departure in [LaterPages, IdlePages, AbsentPosition, StaleFilling] {
         assert!(tally.times(departure) > 0, "{departure:?} did not come up");
     }
 }
@@ -138,7 +139,8 @@ fn ids_far_apart() {
     assert!(tally.times(Departure::FarApart) > 0);
 }
 
-/// Where ids are dense, entries have one page each and next is one past the last, the Rust loses nothing.
+/// Where ids are dense, entries have one page each and next is one past the last, the Rust loses nothing, whatever the
+/// filling.
 #[test]
 fn dense_logs_of_one_page_entries_agree() {
     let mut chance = Chance::new(setting("BESIDE_SEED", 1));
@@ -150,7 +152,7 @@ fn dense_logs_of_one_page_entries_agree() {
         }
     }
     tally.print("dense logs");
-    assert!(tally.needed.is_empty());
+    assert!(tally.needed.keys().eq([&Departure::StaleFilling]));
 }
 
 /// Batches with ids that do not ascend, from states with any last written id.
@@ -181,6 +183,7 @@ fn random_batches() {
         }
     }
     tally.print("random batches");
+    assert!(tally.times(Departure::StaleFilling) > 0);
 }
 
 /// Each payload about each boundary up to six pages, alone and after a longer entry in the same batch.
@@ -201,6 +204,7 @@ fn payloads_about_each_boundary() {
         }
     }
     tally.print("payloads about each boundary");
+    assert_eq!(tally.times(Departure::StaleFilling), tally.compared["pushes"]);
 }
 
 /// Data about 2^24 - 8 bytes: refusals 3 and 16, the id that 3 uses up, and the longest entry that there is.
@@ -233,5 +237,10 @@ fn a_store_without_room() {
     let entry = |id: u64, length: usize| Entry { id, data: vec![id as u8; length] };
     pair.compare_without_room(&[entry(1, 5), entry(2, 1_013), entry(3, 0)], &mut tally);
     assert_eq!((pair.state().length, pair.state().last), (1_024, 2));
-    assert_eq!(tally.times(Departure::NoRoom), 1);
+    assert_eq!((tally.times(Departure::NoRoom), tally.times(Departure::StaleFilling)), (1, 0));
+    // An entry before the refused one keeps bytes of the one before it.
+    let mut pair = Pair::with_capacity(3);
+    pair.compare_without_room(&[entry(1, 5), entry(2, 0), entry(3, 1_013)], &mut tally);
+    assert_eq!((pair.state().length, pair.state().last), (2_048, 3));
+    assert_eq!((tally.times(Departure::NoRoom), tally.times(Departure::StaleFilling)), (2, 1));
 }

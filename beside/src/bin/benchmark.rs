@@ -7,7 +7,7 @@
 use std::{hint::black_box, ops::Bound, time::Instant};
 
 use awirbesh::{ffi, lent, IdSequence, Look, State, Step};
-use beside::{chance::Chance, rust::Rust};
+use beside::{chance::Chance, layout, rust::Rust, Entry};
 use nebari::{
     io::MemoryFile,
     transaction::{
@@ -264,7 +264,14 @@ fn pushes(what: &str, entries: usize, length: usize, batches: usize) {
         assert_eq!(state.length as usize, bytes);
         last = state.last;
     }
-    assert!(store == rust.file.bytes, "both wrote the same bytes");
+    // Both wrote what they must, each with its own filling.
+    for (batch, at) in (0..bytes).step_by(bytes / batches).enumerate() {
+        let first = last + 1 - ((batches - batch) * entries) as u64;
+        let data = data.chunks(length).map(<[u8]>::to_vec);
+        let written: Vec<Entry> = (first..).zip(data).map(|(id, data)| Entry { id, data }).collect();
+        assert!(store[at..].starts_with(&layout::clean(&written)), "ours");
+        assert!(rust.file.bytes[at..].starts_with(&layout::stale(&written)), "the Rust");
+    }
     row(&format!("push: {what}"), (by_rust, by_ours), "");
 }
 
