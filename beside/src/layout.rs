@@ -34,3 +34,10 @@ fn pages(written: &[Entry], kept: bool) -> Vec<u8> {
     }
     pages
 }
+
+/// Sets the filling of an entry to zeros, in bytes that begin with its pages.
+pub fn clear_filling(bytes: &mut [u8], id: u64, data: &[u8]) {
+    for (page, front) in bytes.chunks_mut(PAGE as usize).zip(fronts(id, data)) {
+        page[front.len()..].fill(0);
+    }
+}

@@ -7,7 +7,7 @@ use std::ops::Bound;
 
 use nebari::transaction::{manager::probe::Sequence, state::probe as state_probe};
 
-use crate::{chance::Chance, rust, Entry, Looked, Pair, PushedBy, RecoveredBy, Scanned, Tally};
+use crate::{chance::Chance, layout, rust, Entry, Looked, Pair, PushedBy, RecoveredBy, Scanned, Tally, PAGE};
 
 /// Pages of the store that the program has, and bytes of its pattern.
 pub const PAGES: u64 = 64;
@@ -33,6 +33,16 @@ pub fn sum(before: u64, bytes: &[u8]) -> u64 {
 /// Byte i of the pattern of a log.
 fn pattern(seed: u64) -> Vec<u8> {
     (0..PATTERN as u64).map(|i| ((i + seed % 251) % 251) as u8).collect()
+}
+
+/// The Rust's log with zeros for the filling, where it departs (docs/RULES.md 1.8). So the program compares every mark,
+/// length, id and data byte with the Rust's, and its own filling with zeros.
+fn without_filling(pair: &Pair) -> Vec<u8> {
+    let mut bytes = pair.rust.file.bytes.clone();
+    for held in &pair.held {
+        layout::clear_filling(&mut bytes[(held.page * PAGE) as usize..], held.id, &held.data);
+    }
+    bytes
 }
 
 pub struct List {
@@ -69,8 +79,7 @@ impl List {
         let answer = pair.push(&batch, &mut Tally::default());
         let PushedBy::Answered { number, state } = answer else { panic!("{answer:?}") };
         let written = (pair.held.len() - before) as u64;
-        let bytes = sum(0, &pair.rust.file.bytes);
-        self.line(&[PUSH, number, written, state.length, state.last, bytes]);
+        self.line(&[PUSH, number, written, state.length, state.last, sum(0, &without_filling(pair))]);
     }
 
     fn lookup(&mut self, pair: &mut Pair, id: u64) {
