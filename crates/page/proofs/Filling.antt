@@ -55,24 +55,24 @@ module _ (part₀ part : List ℕ) (i : ℕ) (h : ClearLoop part₀ part i) wher
       let e : i ≡ length part₀ = omega (arith, h .long, ap length (h .bytes), n) in
       h .bytes ∙ rw (e, drop-length part₀) (append-nil (replicate (length part₀) 0))
 
--- ---- a page written: what comes before its data, as much of the data as it then holds, and zeros to the page's end
+-- ---- a page written: its head, as much of the data as it then holds, and zeros to the page's end
 
-module _ (s before d : List ℕ) (m : ℕ) (within : length before ≤ pageSize) (room : pageSize ≤ length s) (e : m ≡ min (length d) (pageSize - length before)) where
+module _ (s head d : List ℕ) (m : ℕ) (within : length head ≤ pageSize) (room : pageSize ≤ length s) (e : m ≡ min (length d) (pageSize - length head)) where
   abbrev front : List ℕ
-  front = before ++ take (pageSize - length before) d
+  front = head ++ take (pageSize - length head) d
 
   -- the part after both were put
-  pub front-put : (p ys : List ℕ) → p ≡ overwritten s before → ys ≡ overwritten (take (length p - length before) (drop (length before) p)) (take m d)
-      → take (length before) p ++ (ys ++ drop (length p - length before) (drop (length before) p)) ≡ overwritten s front
+  pub front-put : (p ys : List ℕ) → p ≡ overwritten s head → ys ≡ overwritten (take (length p - length head) (drop (length head) p)) (take m d)
+      → take (length head) p ++ (ys ++ drop (length p - length head) (drop (length head) p)) ≡ overwritten s front
   front-put p ys q y =
-      overwritten-more s p before (take m d) ys (length before) q refl y
-      ∙ ap (λ (x : List ℕ). overwritten s (before ++ x)) (ap (λ (k : ℕ). take k d) e ∙ take-min (pageSize - length before) d)
+      overwritten-more s p head (take m d) ys (length head) q refl y
+      ∙ ap (λ (x : List ℕ). overwritten s (head ++ x)) (ap (λ (k : ℕ). take k d) e ∙ take-min (pageSize - length head) d)
 
-  length-front : length front ≡ length before + m
-  length-front = length-append before _ ∙ omega (arith, length-take (pageSize - length before) d)
+  length-front : length front ≡ length head + m
+  length-front = length-append head _ ∙ omega (arith, length-take (pageSize - length head) d)
 
   -- and after it was cleared from there to the page's end; the bound only shows a and z to the checker
-  pub rest-cleared : (p zs : List ℕ) (a z : ℕ) → a ≤ z → p ≡ overwritten s front → a ≡ length before + m → z ≡ pageSize → zs ≡ replicate (length (take (z - a) (drop a p))) 0
+  pub rest-cleared : (p zs : List ℕ) (a z : ℕ) → a ≤ z → p ≡ overwritten s front → a ≡ length head + m → z ≡ pageSize → zs ≡ replicate (length (take (z - a) (drop a p))) 0
       → take a p ++ (zs ++ drop (z - a) (drop a p)) ≡ overwritten s (filled front)
   unfolding filled
   rest-cleared p zs a z shown q at end y =

@@ -65,16 +65,16 @@ fn least(a: usize, b: usize) -> usize
     if a < b { a } else { b }
 }
 
-// Writes a page to the front of `part`: what comes before its data, as much of `bytes` as it then holds, and zeros.
-fn write_page(part: &mut [u8], before: &[u8], bytes: &[u8])
-    requires { ⌜ (pageSize ≤ length (now part)) × (length (now before) ≤ pageSize) ⌝ }
-    ensures { λ _. ⌜ now (part .exit) ≡ overwritten (now (part .entry)) (filled (now (before .entry) ++ take (pageSize - length (now (before .entry))) (now (bytes .entry)))) ⌝ }
+// Writes a page to the front of `part`: its head, as much of `bytes` as it then holds, and zeros.
+fn write_page(part: &mut [u8], head: &[u8], bytes: &[u8])
+    requires { ⌜ (pageSize ≤ length (now part)) × (length (now head) ≤ pageSize) ⌝ }
+    ensures { λ _. ⌜ now (part .exit) ≡ overwritten (now (part .entry)) (filled (now (head .entry) ++ take (pageSize - length (now (head .entry))) (now (bytes .entry)))) ⌝ }
 {
-    let from = before.len();
-    let m = least(bytes.len(), Page::SIZE - from);
-    let end = from + m;
-    put(part, before);
-    put(&mut part[from..], &bytes[..m]);
+    let from = head.len();
+    let held = least(bytes.len(), Page::SIZE - from);
+    let end = from + held;
+    put(part, head);
+    put(&mut part[from..], &bytes[..held]);
     clear(&mut part[end..Page::SIZE]);
 }
 
@@ -98,8 +98,8 @@ pub fn write_entry(part: &mut [u8], id: u64, bytes: &[u8])
     requires { ⌜ (pagesForData (length (now bytes)) * pageSize ≤ length (now part)) × (length (now bytes) < dataEnd) ⌝ }
     ensures { λ _. ⌜ now (part .exit) ≡ overwritten (now (part .entry)) (entryPages id (now (bytes .entry))) ⌝ }
 {
-    let before = head(Page::ID_SIZE + bytes.len(), id);
-    write_page(part, &before, bytes);
+    let h = head(Page::ID_SIZE + bytes.len(), id);
+    write_page(part, &h, bytes);
     if Page::FIRST_DATA < bytes.len() {
         write_rest(&mut part[Page::SIZE..], &bytes[Page::FIRST_DATA..]);
     }

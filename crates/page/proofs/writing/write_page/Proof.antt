@@ -1,4 +1,4 @@
--- `write_page` meets its contract: what comes before the data, the data that fits, and zeros. Assumes nothing.
+-- `write_page` meets its contract: the head, the data that fits, and zeros. Assumes nothing.
 use native.Mathlib.Omega.{arith}
 use borrow.Author.Needs.{needs}
 use lib.ListN.{length-take, length-drop}
@@ -56,8 +56,8 @@ returns c =
     let at-least = at-put .before .before in
     let start = at-least .before .before .before .before in
     let a = start .args in
-    let front = front-put (a .part .now) (a .before .now) (a .bytes .now) (at-least .least .result) (start .pre .1) (start .pre .0) (at-least .least .ensures) _ _ (at-put .put .ensures) (at-put2 .put2 .ensures) in
-    rest-cleared (a .part .now) (a .before .now) (a .bytes .now) (at-least .least .result) (start .pre .1) (start .pre .0) (at-least .least .ensures) _ _ _ _ (sub-clear (c .before .before .before .before)) front (omega arith) (omega arith) (c .before .before .clear .ensures)
+    let front = front-put (a .part .now) (a .head .now) (a .bytes .now) (at-least .least .result) (start .pre .1) (start .pre .0) (at-least .least .ensures) _ _ (at-put .put .ensures) (at-put2 .put2 .ensures) in
+    rest-cleared (a .part .now) (a .head .now) (a .bytes .now) (at-least .least .result) (start .pre .1) (start .pre .0) (at-least .least .ensures) _ _ _ _ (sub-clear (c .before .before .before .before)) front (omega arith) (omega arith) (c .before .before .clear .ensures)
 
 pub write-page-spec : {M : Type 1} → statement M
 write-page-spec =
