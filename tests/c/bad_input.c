@@ -110,6 +110,14 @@ static void remember(lent *l)
     memcpy(l->copy, l->bytes, l->len);
 }
 
+/* Bytes that are never 0 and differ from place to place, so that a zero in a pushed page is the push's own. */
+static void fill_without_zeros(lent *l)
+{
+    uint64_t first = below(255);
+    for (size_t i = 0; i < l->len; i++)
+        l->bytes[i] = (uint8_t)(1 + (first + i * 7) % 255);
+}
+
 /* The lent bytes are what `copy` now says (the model may have changed it), and those beside them are as before. */
 static void hold(const lent *l, const char *what)
 {
@@ -216,8 +224,7 @@ static awirbesh_state some_log(void)
 {
     size_t pages = one_in(8) ? 60 : 24;
     lend(&store, below(10) ? below(pages) * PAGE + (one_in(3) ? below(PAGE) : 0) : below(3), one_in(2));
-    for (size_t i = 0; i < store.len; i++)
-        store.bytes[i] = (uint8_t)(i * 7);
+    fill_without_zeros(&store);
     awirbesh_state state = sound_log();
     switch (below(8)) {
     case 0:
@@ -387,7 +394,7 @@ static void make_batch(awirbesh_state state)
     lend(&ids, n * 8, one_in(2));
     lend(&ends, m * 8, one_in(2));
     lend(&data, below(9000), one_in(2));
-    memset(data.bytes, (int)below(256), data.len);
+    fill_without_zeros(&data);
     for (size_t i = 0; i < n; i++) {
         id = one_in(12) ? id : id + 1 + below(3);
         memcpy(ids.bytes + 8 * i, &id, 8);

@@ -273,19 +273,18 @@ awirbesh_stepped model_step(const uint8_t *store, size_t store_len, awirbesh_sta
     return r;
 }
 
-/* Lays one entry out in pages; the image carries the bytes of the page before, as the filling rule says. */
-static void write_entry(uint8_t *at, uint8_t *image, uint64_t id, const uint8_t *data, uint64_t length)
+/* Lays one entry out in pages, with zeros after the payload. */
+static void write_entry(uint8_t *at, uint64_t id, const uint8_t *data, uint64_t length)
 {
-    uint64_t payload = 8 + length, done = 0;
-    for (uint64_t page = 0; page < pages_of(payload); page++) {
-        uint64_t head = page == 0 ? 4 : 1;
-        image[0] = page == 0;
+    uint64_t payload = 8 + length, pages = pages_of(payload), done = 0;
+    memset(at, 0, pages * PAGE);
+    for (uint64_t page = 0; page < pages; page++, at += PAGE) {
+        at[0] = page == 0;
         if (page == 0)
             for (int i = 0; i < 3; i++)
-                image[1 + i] = (uint8_t)(payload >> (16 - 8 * i));
-        for (uint64_t i = head; i < PAGE && done < payload; i++, done++)
-            image[i] = done < 8 ? (uint8_t)(id >> (56 - 8 * done)) : data[done - 8];
-        memcpy(at + page * PAGE, image, PAGE);
+                at[1 + i] = (uint8_t)(payload >> (16 - 8 * i));
+        for (uint64_t i = page == 0 ? 4 : 1; i < PAGE && done < payload; i++, done++)
+            at[i] = done < 8 ? (uint8_t)(id >> (56 - 8 * done)) : data[done - 8];
     }
 }
 
@@ -309,7 +308,6 @@ awirbesh_pushed model_push(uint8_t *store, size_t store_len, awirbesh_state stat
     if (r.number)
         return r;
 
-    uint8_t image[PAGE] = {0};
     before = 0;
     for (size_t i = 0; i < ids_len; before = ends[i++]) {
         uint64_t length = ends[i] - before, bytes = pages_of(8 + length) * PAGE;
@@ -326,7 +324,7 @@ awirbesh_pushed model_push(uint8_t *store, size_t store_len, awirbesh_state stat
             r.number = 4;
             return r;
         }
-        write_entry(store + r.state.length, image, ids[i], length ? data + before : data, length);
+        write_entry(store + r.state.length, ids[i], length ? data + before : data, length);
         r.state.length += bytes;
         r.written++;
     }
