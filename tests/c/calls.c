@@ -1,4 +1,5 @@
-/* Calls each function of awirbesh.h and holds its whole answer to the worked cases of docs/RULES.md 13. */
+/* Calls each function of awirbesh.h and holds its whole answer to the worked cases of docs/RULES.md 13; and pushes
+ * secrets, of which nothing may stay in the filling, docs/RULES.md 1.8. */
 #include "awirbesh.h"
 
 #include <stdio.h>
@@ -21,6 +22,17 @@ static void same_state(const char *what, awirbesh_state s, uint64_t length, uint
     same(what, s.length, length);
     same(what, s.last, last);
     same(what, s.next, next);
+}
+
+static void same_bytes(const char *what, const uint8_t *got, const uint8_t *expected, size_t length)
+{
+    size_t i = 0;
+    while (i < length && got[i] == expected[i])
+        i++;
+    if (i < length) {
+        printf("%s, byte %zu: %d, expected %d\n", what, i, got[i], expected[i]);
+        failed = 1;
+    }
 }
 
 static const awirbesh_range ALL = {{AWIRBESH_OPEN, 0}, {AWIRBESH_OPEN, 0}};
@@ -48,13 +60,13 @@ static void two_entries(void)
     memset(expected, 0, 2048);
     memset(expected + 2048, 0xAA, 2048);
     memcpy(expected, "\1\0\0\15\0\0\0\0\0\0\0\1hello", 17);
-    memcpy(expected + 1024, "\1\0\0\10\0\0\0\0\0\0\0\2hello", 17);
+    memcpy(expected + 1024, "\1\0\0\10\0\0\0\0\0\0\0\2", 12);
     awirbesh_pushed p = awirbesh_push(store, sizeof store, awirbesh_fresh(), ids, 2, ends, 2,
                                       (const uint8_t *)"hello", 5);
     same("push number", p.number, AWIRBESH_OK);
     same("push written", p.written, 2);
     same_state("push", p.state, 2048, 2, 1);
-    same("push bytes", (uint64_t)memcmp(store, expected, sizeof store), 0);
+    same_bytes("push", store, expected, sizeof store);
 
     awirbesh_look l = awirbesh_lookup(store, sizeof store, p.state, 1, out, sizeof out);
     same("not below next, found", l.found, 0);
@@ -119,6 +131,152 @@ static void two_entries(void)
     same("scan of an odd kind", awirbesh_scan(store, sizeof store, state, odd).cursor, 0);
     e = awirbesh_step(store, sizeof store, state, odd, 1024, out, sizeof out);
     same("step of an odd kind", e.id, 2);
+}
+
+/* ---- no old bytes in the filling ---- */
+
+enum { PAGE = 1024, STORE = 8 * PAGE, OLD = 0xA5, SHORT = 5, AFTER = 100 };
+
+/* Three secrets, of 1 page, 3 pages and 1 page, and then the short entry, whose data more of the secret follows. */
+static const uint64_t batch_ids[4] = {5, 6, 7, 9}, batch_ends[4] = {1012, 4004, 4024, 4024 + SHORT};
+enum { SECRETS = 3, SECRET_BYTES = 4024, SECRET_PAGES = 5 };
+static uint8_t batch_data[SECRET_BYTES + SHORT + AFTER];
+
+/* Bytes from 0xC0 on: never 0, never the store's, and none of the short entry's. */
+static void make_secret(uint8_t *bytes, size_t length)
+{
+    for (size_t i = 0; i < length; i++)
+        bytes[i] = (uint8_t)(0xC0 + i % 61);
+}
+
+static awirbesh_state push_whole(const char *what, uint8_t *store, awirbesh_state state, const uint64_t *ids,
+                                 const uint64_t *ends, size_t count, const uint8_t *data, size_t data_len)
+{
+    awirbesh_pushed p = awirbesh_push(store, STORE, state, ids, count, ends, count, data, data_len);
+    same(what, p.number, AWIRBESH_OK);
+    same(what, p.written, count);
+    return p.state;
+}
+
+/* The secrets, in a store that was not zero. */
+static awirbesh_state push_secrets(uint8_t *store)
+{
+    memset(store, OLD, STORE);
+    awirbesh_state state = push_whole("secrets", store, awirbesh_fresh(), batch_ids, batch_ends, SECRETS, batch_data,
+                                      sizeof batch_data);
+    same_state("secrets", state, SECRET_PAGES * PAGE, 7, 1);
+    same_bytes("a secret is stored", store + 12, batch_data, 1012);
+    return state;
+}
+
+/* The short entry's page is the same in every run: mark, length, id, data, and zeros to its end. */
+static void is_short_page(const char *what, const uint8_t *page)
+{
+    static const uint8_t expected[PAGE] = "\1\0\0\15\0\0\0\0\0\0\0\11short";
+    same_bytes(what, page, expected, PAGE);
+}
+
+/* Pushes the short entry alone: its page is added, and no other byte changes. */
+static void push_short(const char *what, uint8_t *store, awirbesh_state state)
+{
+    static uint8_t before[STORE];
+    const uint64_t end = SHORT;
+    size_t at = state.length, after = at + PAGE;
+    memcpy(before, store, STORE);
+    state = push_whole(what, store, state, batch_ids + SECRETS, &end, 1, batch_data + SECRET_BYTES, SHORT + AFTER);
+    same_state(what, state, after, 9, 1);
+    is_short_page(what, store + at);
+    same_bytes(what, store, before, at);
+    same_bytes(what, store + after, before + after, STORE - after);
+}
+
+static void short_entry_in_one_push_with_secrets(uint8_t *store)
+{
+    static uint8_t before[STORE];
+    size_t at = SECRET_PAGES * PAGE, after = at + PAGE;
+    memset(before, OLD, STORE);
+    memset(store, OLD, STORE);
+    awirbesh_state state = push_whole("secrets and a short entry", store, awirbesh_fresh(), batch_ids, batch_ends, 4,
+                                      batch_data, sizeof batch_data);
+    same_state("secrets and a short entry", state, after, 9, 1);
+    is_short_page("secrets and a short entry", store + at);
+    same_bytes("past secrets and a short entry", store + after, before + after, STORE - after);
+}
+
+static void short_entry_in_a_push_after_secrets(uint8_t *store)
+{
+    push_short("short entry after secrets", store, push_secrets(store));
+}
+
+/* The log is cut back to nothing, and the short entry goes over the secrets' first page. */
+static void short_entry_over_secrets(uint8_t *store)
+{
+    push_secrets(store);
+    push_short("short entry over secrets", store, awirbesh_recover(store, STORE, 0).state);
+}
+
+/* The same over the two later pages of the second secret. */
+static void short_entry_over_later_pages(uint8_t *store)
+{
+    for (size_t page = 2; page < 4; page++) {
+        push_secrets(store);
+        push_short("short entry over a later page", store, (awirbesh_state){page * PAGE, 7, 1});
+    }
+}
+
+/* An entry of id 9 over pages of zeros, byte by byte. */
+static void lay_out(uint8_t *zeros, const uint8_t *data, size_t length)
+{
+    size_t at = 12;
+    zeros[0] = 1;
+    zeros[2] = (uint8_t)((8 + length) >> 8);
+    zeros[3] = (uint8_t)(8 + length);
+    zeros[11] = 9;
+    for (size_t i = 0; i < length; i++) {
+        if (at % PAGE == 0)
+            at++;
+        zeros[at++] = data[i];
+    }
+}
+
+/* Data that stops about a page's end, after a full page of the secret in the same push. */
+static void filling_at_its_edges(uint8_t *store)
+{
+    static const struct {
+        size_t length, pages;
+    } edges[] = {
+        {1011, 1}, /* one byte of filling */
+        {1012, 1}, /* none */
+        {1013, 2}, /* 1,022 on the second page */
+        {2034, 2}, /* one */
+        {2035, 2}, /* none */
+        {2036, 3}, /* 1,022 on the third page */
+    };
+    static uint8_t expected[STORE];
+    for (size_t i = 0; i < sizeof edges / sizeof *edges; i++) {
+        size_t size = edges[i].pages * PAGE;
+        const uint64_t ids[2] = {5, 9}, ends[2] = {1012, 1012 + edges[i].length};
+        memset(store, OLD, STORE);
+        memset(expected, OLD, STORE);
+        memset(expected, 0, size);
+        lay_out(expected, batch_data + 1012, edges[i].length);
+        awirbesh_state state = push_whole("data at an edge", store, awirbesh_fresh(), ids, ends, 2, batch_data,
+                                          sizeof batch_data);
+        same_state("data at an edge", state, PAGE + size, 9, 1);
+        same_bytes("data at an edge", store + PAGE, expected, STORE - PAGE);
+    }
+}
+
+static void no_old_bytes_in_the_filling(void)
+{
+    static uint8_t store[STORE];
+    make_secret(batch_data, sizeof batch_data);
+    memcpy(batch_data + SECRET_BYTES, "short", SHORT);
+    short_entry_in_one_push_with_secrets(store);
+    short_entry_in_a_push_after_secrets(store);
+    short_entry_over_secrets(store);
+    short_entry_over_later_pages(store);
+    filling_at_its_edges(store);
 }
 
 /* Data around 2^24 - 8 bytes, which a program of the library's own has no room for. */
@@ -216,6 +374,7 @@ int main(void)
 {
     states();
     two_entries();
+    no_old_bytes_in_the_filling();
     large_data();
     largest_store();
     sequences();
