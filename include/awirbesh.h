@@ -192,7 +192,8 @@ typedef struct {
 /* Appends a batch: entry i has the id ids[i] and the data from ends[i - 1] (0 for the first) to ends[i] of
  * `data`. 1, 13 and 16 change nothing. 2, 3 and 4 end the push at an entry: those before it stay, and after 3
  * and 4 its id is used up. Only the pages added, from the old length to the new, are written to. Never moves
- * next. */
+ * next. After an entry's data come zeros to its last page's end: its pages depend on its id and data alone, and hold
+ * nothing of the entries before it or of what the store held (rules 1, 11). */
 awirbesh_pushed awirbesh_push(uint8_t *store, size_t store_len, awirbesh_state state, const uint64_t *ids,
                               size_t ids_len, const uint64_t *ends, size_t ends_len, const uint8_t *data,
                               size_t data_len);
