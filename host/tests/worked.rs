@@ -24,15 +24,28 @@ fn pages_of_a_payload() {
 }
 
 #[test]
-fn two_pushes_leave_stale_bytes() {
+fn two_entries_of_a_push_end_in_zeros() {
     let mut log = Log::with_capacity(4 * PAGE);
     log.push(&[Entry::new(1, "hello"), Entry::new(2, "")]).unwrap();
     let mut expected = vec![0; 2 * PAGE];
     expected[..17].copy_from_slice(b"\x01\0\0\x0d\0\0\0\0\0\0\0\x01hello");
-    expected[PAGE..PAGE + 17].copy_from_slice(b"\x01\0\0\x08\0\0\0\0\0\0\0\x02hello");
+    expected[PAGE..PAGE + 12].copy_from_slice(b"\x01\0\0\x08\0\0\0\0\0\0\0\x02");
     assert_eq!(log.bytes(), expected);
     assert_eq!(log.state(), State { length: 2048, last: 2, next: 1 });
     assert_eq!(log.position(1), Ok(Look::Absent { position: 2048 }));
+}
+
+/// The filling, docs/RULES.md 1.8: neither a longer entry before it nor the store leaves a byte in an entry's page.
+#[test]
+fn an_entry_has_the_same_page_in_any_batch_and_store() {
+    let mut alone = Log::with_capacity(PAGE);
+    alone.push(&[Entry::new(2, "short")]).unwrap();
+    let (mut log, _) = Log::recover(vec![0xA5; 2 * PAGE], 0).unwrap();
+    log.push(&[Entry::new(1, [0xC7; 1_012]), Entry::new(2, "short")]).unwrap();
+    assert_eq!(&log.bytes()[PAGE..], alone.bytes());
+    let (mut log, _) = Log::recover(log.bytes().to_vec(), 0).unwrap();
+    log.push(&[Entry::new(2, "short")]).unwrap();
+    assert_eq!(log.bytes(), alone.bytes());
 }
 
 #[test]
