@@ -1,5 +1,5 @@
 //! Times the library and nebari's Rust on the same inputs, in one run: `scripts/benchmark` prints the table of
-//! docs/BENCHMARK.md. Build it with --release.
+//! docs/BENCHMARK.md, with --pushes the rows of the pushes alone. Build it with --release.
 //!
 //! Both sides work in memory: the Rust on a file that is a plain vector, reached through `&mut dyn File` as nebari
 //! reaches its files; ours through the safe functions of the host crate. The two take turns, and the least time of all
@@ -7,7 +7,7 @@
 use std::{hint::black_box, ops::Bound, time::Instant};
 
 use awirbesh::{ffi, lent, IdSequence, Look, State, Step};
-use beside::{chance::Chance, layout, rust::Rust, Entry};
+use beside::{chance::Chance, rust::Rust};
 use nebari::{
     io::MemoryFile,
     transaction::{
@@ -264,15 +264,23 @@ fn pushes(what: &str, entries: usize, length: usize, batches: usize) {
         assert_eq!(state.length as usize, bytes);
         last = state.last;
     }
-    // Both wrote what they must, each with its own filling.
-    for (batch, at) in (0..bytes).step_by(bytes / batches).enumerate() {
-        let first = last + 1 - ((batches - batch) * entries) as u64;
-        let data = data.chunks(length).map(<[u8]>::to_vec);
-        let written: Vec<Entry> = (first..).zip(data).map(|(id, data)| Entry { id, data }).collect();
-        assert!(store[at..].starts_with(&layout::clean(&written)), "ours");
-        assert!(rust.file.bytes[at..].starts_with(&layout::stale(&written)), "the Rust");
+    // But for the filling: the Rust's is stale, and an older archive's too.
+    let payload_end = length + 11 + pages;
+    for entry in store.chunks_mut(pages * PAGE).chain(rust.file.bytes.chunks_mut(pages * PAGE)) {
+        entry[payload_end..].fill(0);
     }
+    assert!(store == rust.file.bytes, "both wrote the same bytes, but for the filling");
     row(&format!("push: {what}"), (by_rust, by_ours), "");
+}
+
+fn all_pushes() {
+    pushes("one entry of one page (100 bytes)", 1, 100, 2_000);
+    pushes("16 entries of one page (100 bytes)", 16, 100, 200);
+    pushes("16 entries of one page (no data)", 16, 0, 200);
+    pushes("one full page (1,012 bytes)", 1, 1_012, 2_000);
+    pushes("one entry of two pages (1,013 bytes)", 1, 1_013, 1_000);
+    pushes("one entry of three pages (2,992 bytes)", 1, 2_992, 1_000);
+    pushes("one entry of 1 MiB", 1, 1 << 20, 8);
 }
 
 fn recoveries() {
@@ -345,16 +353,16 @@ fn machine() {
 }
 
 fn main() {
+    let only_pushes = std::env::args().any(|word| word == "--pushes");
     machine();
     println!("| what | the Rust, ns | ours, ns | times as fast | |");
     println!("|---|---|---|---|---|");
+    if only_pushes {
+        return all_pushes();
+    }
     all_lookups();
     scans();
-    pushes("one entry of one page (100 bytes)", 1, 100, 2_000);
-    pushes("16 entries of one page (100 bytes)", 16, 100, 200);
-    pushes("one full page (1,012 bytes)", 1, 1_012, 2_000);
-    pushes("one entry of three pages (2,992 bytes)", 1, 2_992, 1_000);
-    pushes("one entry of 1 MiB", 1, 1 << 20, 8);
+    all_pushes();
     recoveries();
     notes();
     checks();
