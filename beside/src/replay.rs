@@ -13,6 +13,9 @@ use crate::{chance::Chance, layout, rust, Entry, Looked, Pair, PushedBy, Recover
 pub const PAGES: u64 = 64;
 pub const PATTERN: usize = 16_384;
 
+/// What the program's store holds before the pushes, and so an idle page after its mark.
+const FILLED: u8 = 0x5A;
+
 const FRESH: u64 = 0;
 const STAGE: u64 = 1;
 const PUSH: u64 = 2;
@@ -133,7 +136,7 @@ impl List {
         for _ in 0..2 + self.chance.below(5) {
             self.push(&mut pair, &pattern, widest);
             if self.chance.one_in(3) && !pair.held.is_empty() {
-                pair.add_idle_page(0);
+                pair.add_idle_page(FILLED);
                 self.line(&[IDLE]);
             }
         }

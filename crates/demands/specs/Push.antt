@@ -40,9 +40,11 @@ pub record Push : Type 0 where
   pub ends : List ℕ
   pub bytes : List ℕ
 
+-- the id of its entry j
 abbrev pub idIn : Push → ℕ → ℕ
 idIn q j = getD (q .ids) j 0
 
+-- the data of its entry j
 abbrev pub dataIn : Push → ℕ → List ℕ
 dataIn q j = entryData (q .ends) (q .bytes) j
 
@@ -58,7 +60,7 @@ Counted q j = j < outcome q .answer .written
 abbrev pub beginsAt : Push → ℕ → ℕ
 beginsAt q j = q .state .length + length (batchPages (q .ids) (q .ends) (q .bytes) j)
 
--- what the store then has on the pages of entry j
+-- what the store has on the pages of entry j after the push
 abbrev pub pagesOf : Push → ℕ → List ℕ
 pagesOf q j = take (bytesFor (dataIn q j)) (drop (beginsAt q j) (outcome q .store))
 

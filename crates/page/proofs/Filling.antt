@@ -5,17 +5,17 @@ use Prim.Native.Nat.{ℕ, _+_, _-_, _<_, _≤_, min}
 use native.Mathlib.Decide.{decLt}
 use native.Mathlib.Omega.{arith}
 use lib.ListN.{length, getD, set, take, drop, replicate, length-append, length-set, length-take, length-drop, length-replicate, getD-replicate, List·getD-append, List·getD-eq-default}
-use lib.Seq.{getD-append-add, drop-length}
+use lib.Seq.{getD-append-add, drop-length, drop-drop}
 use borrow.Author.Fill.{fill-more}
 use Rattle.page.specs.Size.{pageSize}
 use Rattle.page.specs.Write.{overwritten, filled}
-use Rattle.page.proofs.Parting.{overwritten-length, overwritten-more, overwritten-within, take-min}
+use Rattle.page.proofs.Parting.{overwritten-length, overwritten-after, overwritten-more, take-min}
 
 pub length-filled : (l : List ℕ) → length l ≤ pageSize → length (filled l) ≡ pageSize
 unfolding filled
 length-filled l h = length-append l _ ∙ rw (length-replicate {A = ℕ} (pageSize - length l) 0) (omega arith)
 
-zero-byte : (n i : ℕ) → _≡_ {A = ℕ} (getD (replicate n 0) i 0) 0
+pub zero-byte : (n i : ℕ) → _≡_ {A = ℕ} (getD (replicate n 0) i 0) 0
 zero-byte n i = elim (decLt i n) [
   | yes h ↦ getD-replicate n i 0 0 h
   | no h ↦ List·getD-eq-default (replicate n 0) 0 {n = i} (omega (arith, length-replicate {A = ℕ} n 0))
@@ -61,22 +61,21 @@ module _ (s head d : List ℕ) (m : ℕ) (within : length head ≤ pageSize) (ro
   abbrev front : List ℕ
   front = head ++ take (pageSize - length head) d
 
-  -- the part after both were put
-  pub front-put : (p ys : List ℕ) → p ≡ overwritten s head → ys ≡ overwritten (take (length p - length head) (drop (length head) p)) (take m d)
-      → take (length head) p ++ (ys ++ drop (length p - length head) (drop (length head) p)) ≡ overwritten s front
-  front-put p ys q y =
-      overwritten-more s p head (take m d) ys (length head) q refl y
-      ∙ ap (λ (x : List ℕ). overwritten s (head ++ x)) (ap (λ (k : ℕ). take k d) e ∙ take-min (pageSize - length head) d)
-
   length-front : length front ≡ length head + m
   length-front = length-append head _ ∙ omega (arith, length-take (pageSize - length head) d)
 
-  -- and after it was cleared from there to the page's end; the bound only shows a and z to the checker
-  pub rest-cleared : (p zs : List ℕ) (a z : ℕ) → a ≤ z → p ≡ overwritten s front → a ≡ length head + m → z ≡ pageSize → zs ≡ replicate (length (take (z - a) (drop a p))) 0
-      → take a p ++ (zs ++ drop (z - a) (drop a p)) ≡ overwritten s (filled front)
+  -- p after the head was put, q after the data, and then what was cleared, from a to z; the bound only shows these two to the checker
+  pub page-put : (p ys q zs : List ℕ) (a z : ℕ) → a ≤ z → p ≡ overwritten s head
+      → ys ≡ overwritten (take (length p - length head) (drop (length head) p)) (take m d)
+      → q ≡ take (length head) p ++ (ys ++ drop (length p - length head) (drop (length head) p))
+      → a ≡ length head + m → z ≡ pageSize → zs ≡ replicate (length (take (z - a) (drop a q))) 0
+      → take a q ++ (zs ++ drop (z - a) (drop a q)) ≡ overwritten s (filled front)
   unfolding filled
-  rest-cleared p zs a z shown q at end y =
-      let size : length p ≡ length s = ap length q ∙ overwritten-length s front (omega (arith, length-front)) in
-      let count : length (take (z - a) (drop a p)) ≡ pageSize - length front = omega (arith, length-take (z - a) (drop a p), length-drop a p, length-front) in
-      let zeros : zs ≡ replicate (pageSize - length front) 0 = y ∙ ap (λ (k : ℕ). replicate k 0) count in
-      rw zeros (overwritten-within s p front (replicate (pageSize - length front) 0) a z q (omega (arith, length-front)) (omega (arith, length-front, length-replicate {A = ℕ} (pageSize - length front) 0)))
+  page-put p ys q zs a z shown h y w at end c =
+      let held : take m d ≡ take (pageSize - length head) d = ap (λ (k : ℕ). take k d) e ∙ take-min (pageSize - length head) d in
+      let is : q ≡ overwritten s front = w ∙ overwritten-more s p head (take m d) ys (length head) h refl y ∙ ap (λ (x : List ℕ). overwritten s (head ++ x)) held in
+      let size : length q ≡ length s = ap length is ∙ overwritten-length s front (omega (arith, length-front)) in
+      let count : length (take (z - a) (drop a q)) ≡ pageSize - length front = omega (arith, length-take (z - a) (drop a q), length-drop a q, length-front) in
+      let filling : List ℕ = replicate (pageSize - length front) 0 in
+      let past : a + (z - a) ≡ a + length filling = omega (arith, length-front, length-replicate {A = ℕ} (pageSize - length front) 0) in
+      rw (c, count, drop-drop (z - a) a q, past) (overwritten-after s q front filling a is (omega (arith, length-front)))

@@ -1,4 +1,4 @@
--- An entry's first page: its 12 bytes of mark, length and id, then as much of the data as it holds. Assumes nothing.
+-- An entry's first page: its 12 bytes of mark, length and id, as much of the data as it holds, and zeros. Assumes nothing.
 use mathlib.Core.Path.{_≡_, refl, sym, ap, _∙_}
 use mathlib.Core.List.{List, _∷_, _++_, append-assoc}
 use Prim.Native.Nat.{ℕ, _+_, _-_}

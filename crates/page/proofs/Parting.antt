@@ -27,18 +27,13 @@ take-min k l = elim (decLe (length l) k) [ yes h ↦ rw (take-all k l h) (take-a
 pub overwritten-length : (old new : List ℕ) → length new ≤ length old → length (overwritten old new) ≡ length old
 overwritten-length old new h = simp (length-append, length-drop) (omega arith)
 
--- B put after A, which was put over the front of s
+-- B after A, which was put over the front of s
+pub overwritten-after : (s p A B : List ℕ) (n : ℕ) → p ≡ overwritten s A → length A ≡ n → take n p ++ (B ++ drop (n + length B) p) ≡ overwritten s (A ++ B)
+overwritten-after s p A B n e l =
+    rw (← drop-drop (length B) n p, e, take-at A (drop (length A) s) n l, drop-at A (drop (length A) s) n l, drop-drop (length B) (length A) s)
+    (simp (append-assoc, length-append))
+
+-- B put after A, over the front of the part from there on
 pub overwritten-more : (s p A B ys : List ℕ) (n : ℕ) → p ≡ overwritten s A → length A ≡ n → ys ≡ overwritten (take (length p - n) (drop n p)) B
     → take n p ++ (ys ++ drop (length p - n) (drop n p)) ≡ overwritten s (A ++ B)
-overwritten-more s p A B ys n e l y =
-    let front : take n p ≡ A = ap (take n) e ∙ take-at A (drop (length A) s) n l in
-    let back : drop (n + length B) p ≡ drop (n + length B) s =
-    sym (drop-drop (length B) n p) ∙ ap (λ (q : List ℕ). drop (length B) (drop n q)) e ∙ ap (drop (length B)) (drop-at A (drop (length A) s) n l ∙ ap (λ (k : ℕ). drop k s) l) ∙ drop-drop (length B) n s in
-    put-back n p B ys y ∙ rw (front, back) (simp (append-assoc, length-append, l))
-
--- B put for the part from n to z, after A, which was put over the front of s
-pub overwritten-within : (s p A B : List ℕ) (n z : ℕ) → p ≡ overwritten s A → length A ≡ n → n + length B ≡ z → take n p ++ (B ++ drop (z - n) (drop n p)) ≡ overwritten s (A ++ B)
-overwritten-within s p A B n z e l w =
-    let k : z - n ≡ length B = omega arith in
-    rw (e, take-at A (drop (length A) s) n l, drop-at A (drop (length A) s) n l, k, drop-drop (length B) (length A) s)
-    (simp (append-assoc, length-append))
+overwritten-more s p A B ys n e l y = put-back n p B ys y ∙ overwritten-after s p A B n e l

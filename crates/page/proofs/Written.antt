@@ -5,8 +5,8 @@ use Prim.Native.Nat.{ℕ, zero, suc, _+_, _-_, _*_, _/_, _%_, _^_, _<_, _≤_}
 use native.Mathlib.Nat.{mod-eq-of-lt}
 use native.Mathlib.Decide.{decLt}
 use native.Mathlib.Omega.{arith}
-use lib.ListN.{length, getD, take, drop, replicate, length-drop, List·getD-append, List·getD-eq-default}
-use lib.Seq.{getD-append-add, getD-drop, getD-take, take-at}
+use lib.ListN.{length, getD, take, drop, replicate, length-drop, length-replicate, List·getD-append, List·getD-eq-default}
+use lib.Seq.{getD-append-add, getD-drop, getD-take, take-at, ext-getD}
 use Rattle.page.specs.Size.{pageSize, laterPayload, pageAt, started, firstData, dataEnd, dataStart, idSize, lengthSize, pagesForData, payloadStart}
 use Rattle.page.specs.Bytes.{bytesOf}
 use Rattle.page.specs.Mark.{markAt}
@@ -16,9 +16,9 @@ use Rattle.page.specs.Write.{filled, payloadOf, firstPage, laterPage, la
 use Rattle.page.proofs.Listing.{tab-is}
 use Rattle.page.proofs.Counting.{pages-linear}
 use Rattle.page.proofs.Digits.{number-back, length-bytes}
-use Rattle.page.proofs.Placing.{place-first, place-later}
+use Rattle.page.proofs.Placing.{place-first, place-later, place-linear}
 use Rattle.page.proofs.Paging.{mark-byte}
-use Rattle.page.proofs.Filling.{filled-byte}
+use Rattle.page.proofs.Filling.{zero-byte, filled-byte}
 use Rattle.page.proofs.Heading.{length-head, first-is, length-first}
 use Rattle.page.proofs.Turning.{length-later}
 use Rattle.page.proofs.Joining.{pages-are, length-entry}
@@ -41,13 +41,13 @@ later-at (suc k) d (suc j) r all h =
     ∙ later-at k (drop laterPayload d) j r (omega (arith, length-drop laterPayload d)) h
     ∙ getD-drop laterPayload d (j * laterPayload + r) 0 ∙ rw q
 
-later-mark : (k : ℕ) (d : List ℕ) (j : ℕ) → j < k → getD (laterPages k d) (j * pageSize) 0 ≡ 0
+later-mark : (k : ℕ) (d : List ℕ) (j : ℕ) → getD (laterPages k d) (j * pageSize) 0 ≡ 0
 unfolding laterPages laterPage filled
-later-mark zero d j l = absurd (omega arith)
-later-mark (suc k) d zero l = refl
-later-mark (suc k) d (suc j) l =
+later-mark zero d j = refl
+later-mark (suc k) d zero = refl
+later-mark (suc k) d (suc j) =
     let p : suc j * pageSize ≡ length (laterPage d) + j * pageSize = omega (arith, length-later d) in
-    rw p (getD-append-add (laterPage d) _ (j * pageSize) 0) ∙ later-mark k (drop laterPayload d) j (omega arith)
+    rw p (getD-append-add (laterPage d) _ (j * pageSize) 0) ∙ later-mark k (drop laterPayload d) j
 
 -- ---- an entry
 
@@ -70,7 +70,7 @@ module _ (id : ℕ) (d : List ℕ) where
   mark-later j some within =
       let p : j * pageSize ≡ length first + (j - 1) * pageSize = omega (arith, length-first id d) in
       mark-byte (entryPages id d) j (j * pageSize) (omega (arith, length-entry id d)) refl ∙ rw (pages-are id d, p) (getD-append-add first later ((j - 1) * pageSize) 0)
-      ∙ later-mark (started laterPayload (length d - firstData)) (drop firstData d) (j - 1) (omega (arith, pages-linear (idSize + length d)))
+      ∙ later-mark (started laterPayload (length d - firstData)) (drop firstData d) (j - 1)
 
   -- the first page by its head and what stands after it
   abbrev head : List ℕ
@@ -116,5 +116,12 @@ module _ (id : ℕ) (d : List ℕ) where
   data-first-page = tab-is _ d (λ i h. data-byte i)
 
   -- every byte after the payload is zero
-  pub filling-zero : (i : ℕ) → length d ≤ i → getD (entryPages id d) (placeOf i) 0 ≡ 0
-  filling-zero i h = data-byte i ∙ List·getD-eq-default d 0 {n = i} h
+  pub filling-zeros : drop (placeOf (length d)) (entryPages id d) ≡ replicate (pagesForData (length d) * pageSize - placeOf (length d)) 0
+  filling-zeros =
+      let p = placeOf (length d) in
+      let n = pagesForData (length d) * pageSize - p in
+      let size : length (drop p (entryPages id d)) ≡ n = length-drop p (entryPages id d) ∙ rw (length-entry id d) in
+      ext-getD 0 (drop p (entryPages id d)) (replicate n 0) (size ∙ sym (length-replicate {A = ℕ} n 0)) (λ i b.
+      let e : p + i ≡ placeOf (length d + i) = omega (arith, size, place-linear (length d), place-linear (length d + i), pages-linear (idSize + length d)) in
+      getD-drop p (entryPages id d) i 0 ∙ rw e (data-byte (length d + i))
+      ∙ List·getD-eq-default d 0 {n = length d + i} (omega arith) ∙ sym (zero-byte n i))

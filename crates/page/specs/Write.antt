@@ -9,7 +9,7 @@ use Rattle.page.specs.Bytes.{bytesOf}
 abbrev pub overwritten : List ℕ → List ℕ → List ℕ
 overwritten old new = new ++ drop (length new) old
 
--- 1.8 "every byte after the payload .. is zero": the page that begins so
+-- 1.8 "every byte after the payload is zero": a page's front, and zeros to its end
 unfoldable pub filled : List ℕ → List ℕ
 filled front = front ++ replicate (pageSize - length front) 0
 
@@ -17,7 +17,7 @@ filled front = front ++ replicate (pageSize - length front) 0
 abbrev pub payloadOf : ℕ → List ℕ → List ℕ
 payloadOf id d = bytesOf idSize id ++ d
 
--- 1.3 "Bytes 1 to 3 of a start are the length of the entry's payload; from byte 4 on it holds the payload"
+-- 1.2 "1 for a start"; 1.3 "Bytes 1 to 3 of a start are the length of the entry's payload; from byte 4 on it holds the payload"
 unfoldable pub firstPage : List ℕ → List ℕ
 firstPage payload = filled (1 ∷ (bytesOf lengthSize (length payload) ++ take firstPayload payload))
 
@@ -30,6 +30,6 @@ unfoldable pub laterPages : ℕ → List ℕ → List ℕ
 laterPages zero rest = []
 laterPages (suc k) rest = laterPage rest ++ laterPages k (drop laterPayload rest)
 
--- 1.8 "an entry's pages are given by its id and data alone"
+-- 1.8 "the entry's pages are given by its id and data alone"
 unfoldable pub entryPages : ℕ → List ℕ → List ℕ
 entryPages id d = firstPage (payloadOf id d) ++ laterPages (pagesFor (length (payloadOf id d)) - 1) (drop firstPayload (payloadOf id d))

@@ -32,7 +32,7 @@ fn clear(part: &mut [u8])
 }
 
 // The bytes of an entry before its data: its mark, the length of its payload and its id, high byte first.
-fn head(length: usize, id: u64) -> [u8; Page::DATA_START]
+fn entry_head(length: usize, id: u64) -> [u8; Page::DATA_START]
     ensures { λ r. ⌜ r ≡ headOf length id ⌝ }
 {
     let id1 = id / 256;
@@ -98,8 +98,8 @@ pub fn write_entry(part: &mut [u8], id: u64, bytes: &[u8])
     requires { ⌜ (pagesForData (length (now bytes)) * pageSize ≤ length (now part)) × (length (now bytes) < dataEnd) ⌝ }
     ensures { λ _. ⌜ now (part .exit) ≡ overwritten (now (part .entry)) (entryPages id (now (bytes .entry))) ⌝ }
 {
-    let h = head(Page::ID_SIZE + bytes.len(), id);
-    write_page(part, &h, bytes);
+    let head = entry_head(Page::ID_SIZE + bytes.len(), id);
+    write_page(part, &head, bytes);
     if Page::FIRST_DATA < bytes.len() {
         write_rest(&mut part[Page::SIZE..], &bytes[Page::FIRST_DATA..]);
     }

@@ -24,7 +24,7 @@ fn turn(
         1 => play::stage(w, l, ids, ends),
         2 => play::push(w, l, store, ids, ends, pattern),
         3 => play::next(w, l),
-        4 => play::idle(w),
+        4 => play::idle(w, store),
         5 => play::lookup(w, l, store, out),
         6 => play::scan(w, l, store, out),
         7 => play::recover(w, l, store),

@@ -65,10 +65,11 @@ fn state_of(w: World) -> State {
 
 // ---- the log
 
-fn clear(store: &mut [u8]) {
+// Fills a store with a byte that is not zero, so that zeros in a page are the push's own.
+fn fill(store: &mut [u8]) {
     let mut i: usize = 0;
     while i < store.len() {
-        store[i] = 0;
+        store[i] = 0x5a;
         i += 1;
     }
 }
@@ -84,7 +85,7 @@ fn draw(pattern: &mut [u8], seed: u64) {
 }
 
 pub fn fresh(w: World, l: Line, store: &mut [u8], pattern: &mut [u8]) -> World {
-    clear(store);
+    fill(store);
     draw(pattern, l.a);
     let mut after = w;
     after.length = 0;
@@ -163,11 +164,17 @@ pub fn next(w: World, l: Line) -> World {
 }
 
 // A page with mark 0 after the last entry: the store's bytes there are still zeros.
-pub fn idle(w: World) -> World {
+// A page with mark 0; the rest of it is the store's.
+pub fn idle(w: World, store: &mut [u8]) -> World {
     let length = w.length;
     if 65536 <= length {
         return judged(w, false);
     }
+    let at = length as usize;
+    if store.len() <= at {
+        return judged(w, false);
+    }
+    store[at] = 0;
     let mut after = w;
     after.length = length + (Page::SIZE as u64);
     after

@@ -6,7 +6,7 @@
 --   settled, begun-settled                    from its recovered state, 3 stays found and 2 absent: three-stays-found, two-stays-absent, three-was-given
 --   push-right, push-whole                    5 is pushed: five-is-held, all-written
 --   pages-alone, earlier-hidden               5 after 9, 9, 9 over 255s, by itself after that log, after 6: five-alike, nines-hidden
---   filling-written                           a byte after its payload: five-filled
+--   filling-written                           of its second page, over 255s: five-filled
 --   read-back                                 two ids are taken, and the second, 5, is pushed: five-reads-back, five-stays-read
 --   recover-right, recover-alike              a length with an excess; a log that differs before its last entry: excess-recovers, recovers-alike
 --   complete-right, note-adds                 over words that are not zero: notes-right, three-added
@@ -18,7 +18,7 @@ use mathlib.Core.Logic.{_⊎_, _↔_, inl, inr, ⊎-elim}
 use mathlib.Core.List.{List, [], _∷_, _++_, List·Memᴰ·head}
 use native.Mathlib.Omega.{arith}
 use lib.Dec.{lit<, lit≤}
-use lib.ListN.{length, getD, take, drop, replicate}
+use lib.ListN.{length, take, drop, replicate}
 use Rattle.page.specs.Size.{pagesFor, pageCount, pageAt}
 use Rattle.page.specs.Bytes.{numberAt, bytesOf}
 use Rattle.page.specs.Mark.{markAt}
@@ -210,34 +210,38 @@ five-stays-read later = five-reads-back .reads later (settled begins begins-ther
 
 -- ---- the pages of 5 are the same wherever it is pushed
 
+-- on two pages, the second of which is nearly all filling
+abbrev eights : List ℕ
+eights = replicate 1013 8
+
 -- after 4 with three bytes, in one push from fresh, over pages that hold 255
-abbrev pub after-nines : Push
-after-nines = record { store = replicate 3072 255; state = fresh; ids = 4 ∷ 5 ∷ []; ends = 3 ∷ 4 ∷ []; bytes = 9 ∷ 9 ∷ 9 ∷ 8 ∷ [] }
+abbrev after-nines : Push
+after-nines = record { store = replicate 3072 255; state = fresh; ids = 4 ∷ 5 ∷ []; ends = 3 ∷ 1016 ∷ []; bytes = 9 ∷ 9 ∷ 9 ∷ eights }
 
 -- after 4 with another byte
 abbrev after-six : Push
-after-six = record { store = replicate 3072 255; state = fresh; ids = 4 ∷ 5 ∷ []; ends = 1 ∷ 2 ∷ []; bytes = 6 ∷ 8 ∷ [] }
+after-six = record { store = replicate 3072 255; state = fresh; ids = 4 ∷ 5 ∷ []; ends = 1 ∷ 1014 ∷ []; bytes = 6 ∷ eights }
 
 -- by itself, after the log above
 abbrev by-itself : Push
-by-itself = record { store = store; state = begins .state; ids = 5 ∷ []; ends = 1 ∷ []; bytes = 8 ∷ [] }
+by-itself = record { store = store; state = begins .state; ids = 5 ∷ []; ends = 1013 ∷ []; bytes = eights }
 
 pub five-alike : pagesOf after-nines 1 ≡ pagesOf by-itself 0
 unfolding pagesFor pageAt bytesOf filled firstPage laterPage laterPages entryPages tooLong badState entryData some badEnd badBatch largeData someLarge wrote writing turn entriesFrom pushOf
 five-alike = pages-alone after-nines by-itself 1 0 (lit< tt) (lit< tt) refl refl
 
-pub five-filled : getD (pagesOf after-nines 1) 13 0 ≡ 0
+pub five-filled : drop 1026 (pagesOf after-nines 1) ≡ replicate 1022 0
 unfolding pagesFor pageAt bytesOf filled firstPage laterPage laterPages entryPages tooLong badState entryData some badEnd badBatch largeData someLarge wrote writing turn entriesFrom pushOf placeOf
-five-filled = filling-written after-nines 1 (lit< tt) 1 (lit≤ tt)
+five-filled = filling-written after-nines 1 (lit< tt)
 
-same-data : (i : ℕ) → dataIn after-nines (1 + i) ≡ dataIn after-six (1 + i)
+data-alike : (i : ℕ) → dataIn after-nines (1 + i) ≡ dataIn after-six (1 + i)
 unfolding entryData
-same-data zero = refl
-same-data (suc zero) = refl
-same-data (suc (suc i)) = let e : 1 + suc (suc i) ≡ suc (suc (suc i)) = omega arith in rw e
+data-alike zero = refl
+data-alike (suc zero) = refl
+data-alike (suc (suc i)) = let e : 1 + suc (suc i) ≡ suc (suc (suc i)) = omega arith in rw e
 
 alike-from-five : AlikeFrom after-nines after-six 1 1
-alike-from-five = record { same-id = λ i. refl; same-data = same-data }
+alike-from-five = record { same-id = λ i. refl; same-data = data-alike }
 
 pub nines-hidden : pagesOf after-nines 1 ≡ pagesOf after-six 1
 unfolding pagesFor pageAt bytesOf filled firstPage laterPage laterPages entryPages tooLong badState entryData some badEnd badBatch largeData someLarge wrote writing turn entriesFrom pushOf

@@ -20,8 +20,8 @@ fn marked_page() -> [u8; 1024]
     [0xff; 1024]
 }
 
-// One past the last byte that is not zero.
-fn used(bytes: &[u8]) -> usize
+// Where the zeros at the end begin.
+fn zeros_from(bytes: &[u8]) -> usize
     ensures { λ r. ⌜ r ≤ length (now (bytes .entry)) ⌝ }
 {
     let mut n = bytes.len();
@@ -36,7 +36,7 @@ fn used(bytes: &[u8]) -> usize
 
 // The bytes of a page up to the last that is not zero, and how many zeros come after them.
 pub fn show(page: &[u8]) {
-    let n = used(page);
+    let n = zeros_from(page);
     say::bytes(&page[..n]);
     say::one(b"and # zeros\n", (page.len() - n) as u64);
 }
@@ -48,7 +48,7 @@ fn hello_and_none() {
     page::write_entry(&mut second, 2, b"");
     say::text(b"the page of (1, hello): ");
     show(&first);
-    say::text(b"the page of (2, none) after it: ");
+    say::text(b"the page of (2, none): ");
     show(&second);
 }
 

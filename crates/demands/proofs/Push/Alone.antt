@@ -1,16 +1,16 @@
 -- The bytes that a push leaves on an entry's pages depend on its id and data alone. Assumes nothing.
-use Prim.Native.Nat.{ℕ, zero, suc, _+_, _≤_, _<_}
+use Prim.Native.Nat.{ℕ, zero, suc, _+_, _-_, _≤_, _<_}
 use mathlib.Core.Path.{_≡_, sym, _∙_}
 use mathlib.Core.Logic.{⊎-elim}
 use mathlib.Core.List.{List, [], _++_, append-assoc, append-nil}
 use native.Mathlib.Omega.{arith}
-use lib.ListN.{length, getD, take, drop, length-append, take-append-drop}
+use lib.ListN.{length, getD, take, drop, replicate, length-append, take-append-drop}
 use lib.Seq.{take-at, drop-at, length-take-le}
 use Rattle.refusal.proofs.Cases.{side}
 use Rattle.page.specs.Data.{placeOf}
 use Rattle.page.specs.Write.{entryPages}
 use Rattle.page.proofs.Joining.{length-entry}
-use Rattle.page.proofs.Written.{filling-zero}
+use Rattle.page.proofs.Written.{filling-zeros}
 use Rattle.pushing.specs.Push.{entryData, bytesFor, Done, pushOf}
 use Rattle.log.specs.declared.state.State.{State}
 use Rattle.demands.specs.Push.{batchPages, Push, idIn, dataIn, outcome, Counted, beginsAt, pagesOf, AlikeFrom}
@@ -50,22 +50,22 @@ module _ (store : List ℕ) (st : State) (ids ends bytes : List ℕ) where
 
 pub pages-written : (q : Push) (j : ℕ) → Counted q j → pagesOf q j ≡ entryPages (idIn q j) (dataIn q j)
 pages-written q j h =
-    let r = outcome q in
+    let left = outcome q in
     let log = take (q .state .length) (q .store) in
     let earlier = batchPages (q .ids) (q .ends) (q .bytes) j in
-    let own = entryPages (idIn q j) (dataIn q j) in
-    let a = among (q .ids) (q .ends) (q .bytes) j (r .answer .written) h in
-    let tail = drop (r .answer .state .length) (r .store) in
+    let pages = entryPages (idIn q j) (dataIn q j) in
+    let a = among (q .ids) (q .ends) (q .bytes) j (left .answer .written) h in
+    let tail = drop (left .answer .state .length) (left .store) in
     let size : length (log ++ earlier) ≡ beginsAt q j =
     length-append log earlier ∙ rw (length-take-le (q .state .length) (q .store) (inside-if (q .store) (q .state) (q .ids) (q .ends) (q .bytes) (omega arith))) in
-    let is : r .store ≡ (log ++ earlier) ++ (own ++ (a .rest ++ tail)) =
-    sym (take-append-drop (r .answer .state .length) (r .store)) ∙ rw (push-grows (q .store) (q .state) (q .ids) (q .ends) (q .bytes) .log, a .is) (simp append-assoc) in
-    rw (is, drop-at (log ++ earlier) (own ++ (a .rest ++ tail)) (beginsAt q j) size) (take-at own (a .rest ++ tail) (bytesFor (dataIn q j)) (length-entry (idIn q j) (dataIn q j)))
+    let is : left .store ≡ (log ++ earlier) ++ (pages ++ (a .rest ++ tail)) =
+    sym (take-append-drop (left .answer .state .length) (left .store)) ∙ rw (push-grows (q .store) (q .state) (q .ids) (q .ends) (q .bytes) .log, a .is) (simp append-assoc) in
+    rw (is, drop-at (log ++ earlier) (pages ++ (a .rest ++ tail)) (beginsAt q j) size) (take-at pages (a .rest ++ tail) (bytesFor (dataIn q j)) (length-entry (idIn q j) (dataIn q j)))
 
--- ---- THEOREM: where a counted entry's data has no byte i, the place for it holds zero
+-- ---- THEOREM: after a counted entry's payload its pages hold zeros, to their end
 
-pub filling-written : (q : Push) (j : ℕ) → Counted q j → (i : ℕ) → length (dataIn q j) ≤ i → getD (pagesOf q j) (placeOf i) 0 ≡ 0
-filling-written q j h i l = rw (pages-written q j h) (filling-zero (idIn q j) (dataIn q j) i l)
+pub filling-written : (q : Push) (j : ℕ) → Counted q j → drop (placeOf (length (dataIn q j))) (pagesOf q j) ≡ replicate (bytesFor (dataIn q j) - placeOf (length (dataIn q j))) 0
+filling-written q j h = rw (pages-written q j h) (filling-zeros (idIn q j) (dataIn q j))
 
 -- ---- THEOREM: of two pushes of any batches onto any logs, counted entries of the same id and data have the same pages
 

@@ -12,11 +12,11 @@ use Rattle.page.proofs.Joining.{one-page, more-pages}
 use Rattle.page.proofs.writing.write_entry.Statement.{statement}
 use Rattle.page.proofs.writing.write_entry.Tie as tie
 
-add-head : tie.Need-add-head
-add-head c = search needs
+add-entry-head : tie.Need-add-entry-head
+add-entry-head c = search needs
 
-head-requires : tie.Need-head-requires
-head-requires c κs = search needs
+entry-head-requires : tie.Need-entry-head-requires
+entry-head-requires c κs = search needs
 
 slice-aggregate-write-page : tie.Need-slice-aggregate-write-page
 slice-aggregate-write-page c = search needs
@@ -25,7 +25,7 @@ write-page-requires : tie.Need-write-page-requires
 write-page-requires c κs =
     let at-head = c .before .before in
     let a = at-head .before .before .before .args in
-    omega (arith, pages-some (idSize + length (a .bytes .now)), ap length (at-head .head .ensures) ∙ length-head (idSize + length (a .bytes .now)) (a .id))
+    omega (arith, pages-some (idSize + length (a .bytes .now)), ap length (at-head .entry-head .ensures) ∙ length-head (idSize + length (a .bytes .now)) (a .id))
 
 sub-write-rest : tie.Need-sub-write-rest
 sub-write-rest c = omega (arith, pages-some (idSize + length (c .before .before .before .before .before .before .before .before .before .args .bytes .now)))
@@ -56,7 +56,7 @@ same-length c = search needs
 returns : tie.Need-returns
 returns c =
     let at-page = c .before .before .before .before .before .before .before .before in
-    more-pages _ _ _ _ _ (at-page .before .before .before .head .ensures) (at-page .write-page .ensures) _ (c .before .before .write-rest .ensures)
+    more-pages _ _ _ _ _ (at-page .before .before .before .entry-head .ensures) (at-page .write-page .ensures) _ (c .before .before .write-rest .ensures)
 
 same-length-2 : tie.Need-same-length-2
 same-length-2 c = search needs
@@ -64,14 +64,14 @@ same-length-2 c = search needs
 returns-2 : tie.Need-returns-2
 returns-2 c =
     let at-page = c .before .before .before in
-    one-page _ _ _ _ _ (at-page .before .before .before .head .ensures) (at-page .write-page .ensures) (c .if1 .left)
+    one-page _ _ _ _ _ (at-page .before .before .before .entry-head .ensures) (at-page .write-page .ensures) (c .if1 .left)
 
 pub write-entry-spec : {M : Type 1} → statement M
 write-entry-spec =
     tie.close
     (tie.spec
-    add-head
-    head-requires
+    add-entry-head
+    entry-head-requires
     slice-aggregate-write-page
     write-page-requires
     sub-write-rest

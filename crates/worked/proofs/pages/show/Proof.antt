@@ -5,8 +5,8 @@ use borrow.Author.Needs.{needs}
 use Rattle.worked.proofs.pages.show.Statement.{statement}
 use Rattle.worked.proofs.pages.show.Tie as tie
 
-used-requires : tie.Need-used-requires
-used-requires c κs = search needs
+zeros-from-requires : tie.Need-zeros-from-requires
+zeros-from-requires c κs = search needs
 
 slice-aggregate-bytes : tie.Need-slice-aggregate-bytes
 slice-aggregate-bytes c = simp length-take (omega arith)
@@ -30,7 +30,7 @@ pub show-spec : {M : Type 1} → statement M
 show-spec =
     tie.close
     (tie.spec
-    used-requires
+    zeros-from-requires
     slice-aggregate-bytes
     bytes-requires
     slice-aggregate-one

@@ -1,11 +1,11 @@
--- `head` meets its contract, byte by byte: the mark, and the digits of the length and the id, high byte first. Assumes nothing.
+-- `entry_head` meets its contract, byte by byte: the mark, and the digits of the length and the id, high byte first. Assumes nothing.
 use mathlib.Core.Path.{refl}
 use native.Mathlib.Omega.{arith}
 use borrow.Author.Needs.{needs}
 use Rattle.page.proofs.Listing.{cons-same}
 use Rattle.page.specs.Bytes.{bytesOf}
-use Rattle.page.proofs.writing.head.Statement.{statement}
-use Rattle.page.proofs.writing.head.Tie as tie
+use Rattle.page.proofs.writing.entry_head.Statement.{statement}
+use Rattle.page.proofs.writing.entry_head.Tie as tie
 
 cast-t13 : tie.Need-cast-t13
 cast-t13 c = search needs
@@ -48,8 +48,8 @@ returns c =
     (cons-same (omega arith) (cons-same (omega arith) (cons-same (omega arith) (cons-same (omega arith)
     (cons-same (omega arith) (cons-same (omega arith) (cons-same (omega arith) (cons-same (omega arith) refl)))))))))))
 
-pub head-spec : {M : Type 1} → statement M
-head-spec =
+pub entry-head-spec : {M : Type 1} → statement M
+entry-head-spec =
     tie.close
     (tie.spec
     cast-t13

@@ -1,10 +1,10 @@
--- `replay::play::clear` is safe and ends. Assumes nothing.
+-- `replay::play::fill` is safe and ends. Assumes nothing.
 use Prim.Native.Nat.{_-_}
 use mathlib.Core.Path.{_≡_}
 use native.Mathlib.Omega.{arith}
 use lib.ListN.{length, length-set}
-use Rattle.replay.proofs.play.clear.Statement.{statement}
-use Rattle.replay.proofs.play.clear.Tie as tie
+use Rattle.replay.proofs.play.fill.Statement.{statement}
+use Rattle.replay.proofs.play.fill.Tie as tie
 
 abbrev Inv-loop : tie.InvT-loop
 Inv-loop store₀ i₀ store i = length store ≡ length store₀
@@ -33,8 +33,8 @@ same-length c = omega arith
 returns : tie.Need-returns Inv-loop μ-loop
 returns c = tt
 
-pub clear-spec : {M : Type 1} → statement M
-clear-spec =
+pub fill-spec : {M : Type 1} → statement M
+fill-spec =
     tie.close
     (tie.spec
     Inv-loop

@@ -1,10 +1,10 @@
--- `used` is safe and ends, at most at the length. Assumes nothing.
+-- `zeros_from` is safe and ends, at most at the length. Assumes nothing.
 use Prim.Native.Nat.{_≤_}
 use native.Mathlib.Omega.{arith}
 use borrow.Author.Needs.{needs}
 use lib.ListN.{length}
-use Rattle.worked.proofs.pages.used.Statement.{statement}
-use Rattle.worked.proofs.pages.used.Tie as tie
+use Rattle.worked.proofs.pages.zeros_from.Statement.{statement}
+use Rattle.worked.proofs.pages.zeros_from.Tie as tie
 
 abbrev Inv-loop : tie.InvT-loop
 Inv-loop bytes n₀ n = n ≤ length bytes
@@ -36,8 +36,8 @@ loop-again c = omega arith
 returns-2 : tie.Need-returns-2 Inv-loop μ-loop
 returns-2 c = omega arith
 
-pub used-spec : {M : Type 1} → statement M
-used-spec =
+pub zeros-from-spec : {M : Type 1} → statement M
+zeros-from-spec =
     tie.close
     (tie.spec
     Inv-loop
