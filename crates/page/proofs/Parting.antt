@@ -1,5 +1,5 @@
 -- Laws of parts of lists: a part lent, and what was put over its front, said of the whole. Assumes nothing.
-use mathlib.Core.Path.{_≡_, sym, ap, _∙_}
+use mathlib.Core.Path.{_≡_, _∙_}
 use mathlib.Core.List.{List, [], _++_, append-assoc, append-nil}
 use Prim.Native.Nat.{ℕ, _+_, _-_, _≤_, min}
 use native.Mathlib.Nat.{lt-of-not-le, min-eq-left, min-eq-right, le-of-lt}
