@@ -221,9 +221,10 @@ mod tests {
             let said = said_of(|pair| pair.rust.file.bytes[at] = byte).unwrap_err();
             assert!(said.starts_with("no departure names it"), "{said}");
         }
-        // Zeros in all of the filling are no departure.
+        // Zeros in all of the filling are not what the Rust leaves here.
         assert_eq!(of_written(&batch, ours), None);
-        assert_eq!(said_of(|pair| pair.rust.file.bytes = pair.ours.bytes().to_vec()), Ok(()));
+        let said = said_of(|pair| pair.rust.file.bytes = pair.ours.bytes().to_vec()).unwrap_err();
+        assert!(said.starts_with("no departure names it"), "{said}");
         // Filling that was kept from an earlier push is none that a push may leave.
         let (first, second) = batch.split_at(1);
         assert_eq!(of_written(second, &rust[2_048..]), None);

@@ -14,6 +14,46 @@ fn said(refusal: Refusal) -> String {
     refusal.to_string()
 }
 
+/// Calls with the output buffer, grown to what refusal 10 asks for.
+fn with_room<T>(out: &mut Vec<u8>, call: impl Fn(&mut [u8]) -> Result<T, Refusal>) -> Result<T, Refusal> {
+    match call(out) {
+        Err(Refusal::BufferSmall { needed }) => {
+            out.resize(needed as usize, 0);
+            call(out)
+        }
+        answer => answer,
+    }
+}
+
+fn lookup(store: &[u8], state: State, id: u64, out: &mut Vec<u8>) -> Looked {
+    match with_room(out, |out| lent::lookup(store, state, id, out)) {
+        Ok(Look::Found { position, length }) => {
+            Looked::Found { position, length, data: out[..length as usize].to_vec() }
+        }
+        Ok(Look::Absent { position }) => Looked::Absent { position },
+        Err(refusal) => Looked::Refused(said(refusal)),
+    }
+}
+
+fn scan(store: &[u8], state: State, ids: Ids, out: &mut Vec<u8>) -> Scanned {
+    let range = ffi::Range::of(&ids);
+    let mut cursor = match lent::scan(store, state, range) {
+        Ok(cursor) => cursor,
+        Err(refusal) => return Scanned::Refused(said(refusal)),
+    };
+    let mut entries = Vec::new();
+    loop {
+        match with_room(out, |out| lent::step(store, state, range, cursor, out)) {
+            Ok(Step::Entry { id, length, cursor: next }) => {
+                entries.push((id, out[..length as usize].to_vec()));
+                cursor = next;
+            }
+            Ok(Step::End { .. }) => return Scanned::Entries(entries),
+            Err(refusal) => return Scanned::Refused(said(refusal)),
+        }
+    }
+}
+
 impl Ours {
     pub fn with_capacity(bytes: usize) -> Ours {
         Ours { store: vec![0xEE; bytes], state: State::fresh(), out: vec![0; 1 << 15] }
@@ -23,45 +63,21 @@ impl Ours {
         &self.store[..self.state.length as usize]
     }
 
-    /// The output buffer, grown to what refusal 10 asks for.
-    fn with_room<T>(&mut self, call: impl Fn(&Ours, &mut [u8]) -> Result<T, Refusal>) -> Result<T, Refusal> {
-        let mut out = std::mem::take(&mut self.out);
-        let mut answer = call(self, &mut out);
-        if let Err(Refusal::BufferSmall { needed }) = answer {
-            out.resize(needed as usize, 0);
-            answer = call(self, &mut out);
-        }
-        self.out = out;
-        answer
-    }
-
     pub fn lookup(&mut self, id: u64) -> Looked {
-        match self.with_room(|ours, out| lent::lookup(&ours.store, ours.state, id, out)) {
-            Ok(Look::Found { position, length }) => {
-                Looked::Found { position, length, data: self.out[..length as usize].to_vec() }
-            }
-            Ok(Look::Absent { position }) => Looked::Absent { position },
-            Err(refusal) => Looked::Refused(said(refusal)),
-        }
+        lookup(&self.store, self.state, id, &mut self.out)
     }
 
     pub fn scan(&mut self, ids: Ids) -> Scanned {
-        let range = ffi::Range::of(&ids);
-        let mut cursor = match lent::scan(&self.store, self.state, range) {
-            Ok(cursor) => cursor,
-            Err(refusal) => return Scanned::Refused(said(refusal)),
-        };
-        let mut entries = Vec::new();
-        loop {
-            match self.with_room(|ours, out| lent::step(&ours.store, ours.state, range, cursor, out)) {
-                Ok(Step::Entry { id, length, cursor: next }) => {
-                    entries.push((id, self.out[..length as usize].to_vec()));
-                    cursor = next;
-                }
-                Ok(Step::End { .. }) => return Scanned::Entries(entries),
-                Err(refusal) => return Scanned::Refused(said(refusal)),
-            }
-        }
+        scan(&self.store, self.state, ids, &mut self.out)
+    }
+
+    /// The same in other bytes, of the same length.
+    pub fn lookup_in(&mut self, store: &[u8], id: u64) -> Looked {
+        lookup(store, self.state, id, &mut self.out)
+    }
+
+    pub fn scan_in(&mut self, store: &[u8], ids: Ids) -> Scanned {
+        scan(store, self.state, ids, &mut self.out)
     }
 
     /// Pushes, and says how many entries were written.

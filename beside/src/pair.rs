@@ -77,11 +77,9 @@ impl Pair {
         assert_eq!(by_ours, by_rust, "push of {:?} to {}", ids_of(batch), self.words());
         let written = &batch[..written as usize];
         self.compare_written(written, from, tally);
-        let end = self.ours.state.length as usize;
-        assert!(self.ours.store[..from] == store[..from], "bytes of the log changed");
-        assert!(self.ours.store[end..] == store[end..], "bytes past the log changed");
+        self.assert_kept(&store, from);
         assert!(self.rust.file.bytes[..from] == file, "bytes of the Rust's log changed");
-        assert_eq!(self.rust.file.bytes.len(), end, "the Rust's file");
+        assert_eq!(self.rust.file.bytes.len() as u64, self.ours.state.length, "the Rust's file");
         self.hold_written(written, from);
         tally.compared("pushes");
         by_rust
@@ -92,7 +90,8 @@ impl Pair {
         let truth = layout::clean(written);
         assert!(self.ours.bytes()[from..] == truth, "the library's pages of {:?}", ids_of(written));
         let by_rust = &self.rust.file.bytes[from..from + truth.len()];
-        if by_rust == truth {
+        // Where an image that is kept leaves zeros, there is nothing to name.
+        if by_rust == truth && truth == layout::stale(written) {
             return;
         }
         match departures::of_written(written, by_rust) {
@@ -103,6 +102,13 @@ impl Pair {
             }
             None => panic!("no departure names it: the Rust's pages of {:?}", ids_of(written)),
         }
+    }
+
+    /// Our push changed neither the log that it was given nor the bytes after the pages that it added.
+    fn assert_kept(&self, store: &[u8], from: usize) {
+        let end = self.ours.state.length as usize;
+        assert!(self.ours.store[..from] == store[..from], "bytes of the log changed");
+        assert!(self.ours.store[end..] == store[end..], "bytes past the log changed");
     }
 
     /// Takes the entries that were written into what is known.
@@ -143,6 +149,8 @@ impl Pair {
         let truth = self.truth(id);
         let by_ours = self.ours.lookup(id);
         assert_eq!(by_ours, truth, "the library's lookup of {id} in {}", self.words());
+        let in_rusts = self.ours.lookup_in(&self.rust.file.bytes, id);
+        assert_eq!(in_rusts, truth, "the library's lookup of {id} in the Rust's bytes of {}", self.words());
         let by_rust = self.rust.lookup(id);
         tally.compared(match truth {
             Looked::Found { .. } => "lookups of stored ids",
@@ -172,6 +180,8 @@ impl Pair {
         let truth = Scanned::Entries(self.held.iter().filter(inside).map(|h| (h.id, h.data.clone())).collect());
         let by_ours = self.ours.scan(ids);
         assert_eq!(by_ours, truth, "the library's scan of {ids:?} in {}", self.words());
+        let in_rusts = self.ours.scan_in(&self.rust.file.bytes, ids);
+        assert_eq!(in_rusts, truth, "the library's scan of {ids:?} in the Rust's bytes of {}", self.words());
         let by_rust = self.rust.scan(ids);
         tally.compared("scans");
         if by_rust == truth {
@@ -225,12 +235,13 @@ impl Pair {
     /// Pushes what does not fit into the store: the library refuses 4 there, and the Rust, whose file has no end,
     /// goes on. Up to that entry the two agree.
     pub fn compare_without_room(&mut self, batch: &[Entry], tally: &mut Tally) {
-        let from = self.ours.state.length as usize;
+        let (store, from) = (self.ours.store.clone(), self.ours.state.length as usize);
         let (by_ours, written) = self.ours.push(batch);
         let PushedBy::Answered { number: 4, state } = by_ours else { panic!("not refused with 4: {by_ours:?}") };
         let by_rust = self.rust.push(batch);
         assert!(matches!(by_rust, PushedBy::Answered { number: 0, .. }), "{by_rust:?}");
         self.compare_written(&batch[..written as usize], from, tally);
+        self.assert_kept(&store, from);
         assert_eq!(state.last, batch[written as usize].id, "4 uses up the id");
         tally.compared("pushes without room");
         let input = || format!("a store of {} bytes, push of {:?}", self.ours.store.len(), ids_of(batch));

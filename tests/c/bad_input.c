@@ -110,12 +110,12 @@ static void remember(lent *l)
     memcpy(l->copy, l->bytes, l->len);
 }
 
-/* Bytes that are never 0 and differ from place to place, so that a zero in a pushed page is the push's own. */
-static void fill_without_zeros(lent *l)
+/* Bytes from `least` on that differ from place to place; from 1 on, a zero in a pushed page is the push's own. */
+static void fill(lent *l, unsigned least)
 {
-    uint64_t first = below(255);
+    uint64_t first = below(256);
     for (size_t i = 0; i < l->len; i++)
-        l->bytes[i] = (uint8_t)(1 + (first + i * 7) % 255);
+        l->bytes[i] = (uint8_t)(least + (first + i * 7) % (256 - least));
 }
 
 /* The lent bytes are what `copy` now says (the model may have changed it), and those beside them are as before. */
@@ -224,7 +224,7 @@ static awirbesh_state some_log(void)
 {
     size_t pages = one_in(8) ? 60 : 24;
     lend(&store, below(10) ? below(pages) * PAGE + (one_in(3) ? below(PAGE) : 0) : below(3), one_in(2));
-    fill_without_zeros(&store);
+    fill(&store, 1);
     awirbesh_state state = sound_log();
     switch (below(8)) {
     case 0:
@@ -394,7 +394,7 @@ static void make_batch(awirbesh_state state)
     lend(&ids, n * 8, one_in(2));
     lend(&ends, m * 8, one_in(2));
     lend(&data, below(9000), one_in(2));
-    fill_without_zeros(&data);
+    fill(&data, one_in(4) ? 0 : 1);
     for (size_t i = 0; i < n; i++) {
         id = one_in(12) ? id : id + 1 + below(3);
         memcpy(ids.bytes + 8 * i, &id, 8);
