@@ -73,7 +73,7 @@ module _ (s head d : List ℕ) (m : ℕ) (within : length head ≤ pageSize) (ro
   unfolding filled
   page-put p ys q zs a z shown h y w at end c =
       let held : take m d ≡ take (pageSize - length head) d = ap (λ (k : ℕ). take k d) e ∙ take-min (pageSize - length head) d in
-      let is : q ≡ overwritten s front = w ∙ overwritten-more s p head (take m d) ys (length head) h refl y ∙ ap (λ (x : List ℕ). overwritten s (head ++ x)) held in
+      let is : q ≡ overwritten s front = w ∙ overwritten-more s p head (take (pageSize - length head) d) (take m d) ys (length head) h refl held y in
       let size : length q ≡ length s = ap length is ∙ overwritten-length s front (omega (arith, length-front)) in
       let count : length (take (z - a) (drop a q)) ≡ pageSize - length front = omega (arith, length-take (z - a) (drop a q), length-drop a q, length-front) in
       let filling : List ℕ = replicate (pageSize - length front) 0 in

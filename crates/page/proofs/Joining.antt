@@ -28,17 +28,20 @@ module _ (part₀ b : List ℕ) (id : ℕ) (h part₁ : List ℕ) (e : h ≡ hea
       let z : started laterPayload (length b - firstData) ≡ 0 = omega arith in
       rw (pages-are id b, z) (simp append-nil first-put)
 
-  pub more-pages : (ys : List ℕ)
-      → ys ≡ overwritten (take (length part₁ - pageSize) (drop pageSize part₁)) (laterPages (started laterPayload (length (take (length b - firstData) (drop firstData b)))) (take (length b - firstData) (drop firstData b)))
+  -- the data after the first page's, as the code lends it
+  abbrev rest : List ℕ
+  rest = take (length b - firstData) (drop firstData b)
+
+  pub more-pages : (ys : List ℕ) → ys ≡ overwritten (take (length part₁ - pageSize) (drop pageSize part₁)) (laterPages (started laterPayload (length rest)) rest)
       → take pageSize part₁ ++ (ys ++ drop (length part₁ - pageSize) (drop pageSize part₁)) ≡ overwritten part₀ (entryPages id b)
   more-pages ys y =
       let later = laterPages (started laterPayload (length b - firstData)) (drop firstData b) in
-      let rest = take (length b - firstData) (drop firstData b) in
       let same : laterPages (started laterPayload (length rest)) rest ≡ later = rw (rest-of firstData b, length-drop) in
       rw (pages-are id b)
-      (overwritten-more part₀ part₁ (firstPage (payloadOf id b)) later ys pageSize first-put (length-first id b) (y ∙ ap (overwritten (take (length part₁ - pageSize) (drop pageSize part₁))) same))
+      (overwritten-more part₀ part₁ (firstPage (payloadOf id b)) later _ ys pageSize first-put (length-first id b) same y)
 
 pub length-entry : (id : ℕ) (d : List ℕ) → length (entryPages id d) ≡ pagesForData (length d) * pageSize
 length-entry id d =
-    let later = laterPages (started laterPayload (length d - firstData)) (drop firstData d) in
-    rw (pages-are id d) (length-append (firstPage (payloadOf id d)) later ∙ rw (length-first id d, length-pages (started laterPayload (length d - firstData)) (drop firstData d)) (omega (arith, pages-linear (idSize + length d))))
+    let k = started laterPayload (length d - firstData) in
+    rw (pages-are id d) (length-append (firstPage (payloadOf id d)) (laterPages k (drop firstData d))
+    ∙ rw (length-first id d, length-pages k (drop firstData d)) (omega (arith, pages-linear (idSize + length d))))

@@ -34,6 +34,6 @@ overwritten-after s p A B n e l =
     (simp (append-assoc, length-append))
 
 -- B put after A, over the front of the part from there on
-pub overwritten-more : (s p A B ys : List ℕ) (n : ℕ) → p ≡ overwritten s A → length A ≡ n → ys ≡ overwritten (take (length p - n) (drop n p)) B
+pub overwritten-more : (s p A B C ys : List ℕ) (n : ℕ) → p ≡ overwritten s A → length A ≡ n → C ≡ B → ys ≡ overwritten (take (length p - n) (drop n p)) C
     → take n p ++ (ys ++ drop (length p - n) (drop n p)) ≡ overwritten s (A ++ B)
-overwritten-more s p A B ys n e l y = put-back n p B ys y ∙ overwritten-after s p A B n e l
+overwritten-more s p A B C ys n e l same y = put-back n p C ys y ∙ rw same (overwritten-after s p A B n e l)

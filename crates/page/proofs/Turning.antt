@@ -57,7 +57,7 @@ module _ (part₀ b : List ℕ) (k : ℕ) (part : List ℕ) (j : ℕ) (h : Later
       let page : filled (mark ∷ take laterPayload (take (length b - j * laterPayload) (drop (j * laterPayload) b))) ≡ laterPage (drop (j * laterPayload) b) =
       rw (rest-of (j * laterPayload) b) (mark-zero mark (drop (j * laterPayload) b) none) in
       let e : part′ ≡ overwritten part₀ (laterPages (j + 1) b) =
-      w ∙ rw (add-one j, pages-next j b) (overwritten-more part₀ part (laterPages j b) _ ys (j * pageSize) (h .bytes) (length-pages j b) (y ∙ ap (overwritten (take (length part - j * pageSize) (drop (j * pageSize) part))) page)) in
+      w ∙ rw (add-one j, pages-next j b) (overwritten-more part₀ part (laterPages j b) _ _ ys (j * pageSize) (h .bytes) (length-pages j b) page y) in
       record {
         most = omega arith;
         count = h .count;

@@ -117,7 +117,8 @@ module _ {store₀ : List ℕ} {st₀ : State} {ids ends bytes store : List ℕ}
         ap (follow rest) e ∙ rw (h .from-is) (rw m at (h .same))
 
     module _ (store′ : List ℕ) (r : EntryTurn) (turned : (i : ℕ) → paperEntryTurn i store′ r ≡ turn i (getD ids j 0) (take (getD ends j 0 - from) (drop from bytes)) here) where
-      pub entries-refused : (x : Refusal) (st′ : State) → r ≡ Refused x st′ → (a : Pushing) (n : ℕ) → a ≡ pushing (refused (numberOf x) (valueOf x)) n st′ → n ≡ j → (a ≡ whole .answer) × (store′ ≡ whole .store)
+      pub entries-refused : (x : Refusal) (st′ : State) → r ≡ Refused x st′ → (a : Pushing) (n : ℕ) → a ≡ pushing (refused (numberOf x) (valueOf x)) n st′ → n ≡ j
+          → (a ≡ whole .answer) × (store′ ≡ whole .store)
       entries-refused x st′ e a n f q =
           let w : done (refused (numberOf x) (valueOf x)) j (point st′ store′) ≡ whole = in-turn _ (rw e at (turned j)) in
           (f ∙ rw q (ap (λ (y : Done). y .answer) w), ap (λ (y : Done). y .store) w)

@@ -70,7 +70,8 @@ returns-4 c =
     let a = c .before .before .before .before .before .before .before .before .before .before .before .before .before .args in
     let k = ap (λ (n : ℕ). n * pageSize) (c .before .before .before .before .before .before .pages-for-data .ensures) in
     let w = c .before .before .before .write-entry .ensures in
-    λ j. write-pages (a .id) (a .bytes .now) (a .state) (a .store .now) (above (c .before .before .before .before .before .before .before .before .before)) j (omega arith) _ k (omega arith) _ _ w refl _ _ _ (c .moved2 .ensures) (omega arith) (omega arith)
+    let above-last = above (c .before .before .before .before .before .before .before .before .before) in
+    λ j. write-pages (a .id) (a .bytes .now) (a .state) (a .store .now) above-last j (omega arith) _ k (omega arith) _ _ w refl _ _ _ (c .moved2 .ensures) (omega arith) (omega arith)
 
 pub write-in-turn-spec : {M : Type 1} → statement M
 write-in-turn-spec =

@@ -25,10 +25,14 @@ enum-known-reached-3 c = c .match .keys3
 -- where an entry is reached: what `forward` gave, and that it lies in the log
 is-reached : (c : tie.After-reached3) →
     let args = c .before .before .before .before .before .args in
-    reached (c .reached3 .given .0 .0) (c .reached3 .given .0 .1 .0) (c .reached3 .given .0 .1 .1 .0) (c .reached3 .given .0 .1 .1 .1 .0) ≡ forwardFrom (args .log .now) (args .range) (args .from)
+    let entry = c .reached3 .given .0 in
+    reached (entry .0) (entry .1 .0) (entry .1 .1 .0) (entry .1 .1 .1 .0) ≡ forwardFrom (args .log .now) (args .range) (args .from)
 is-reached c = sym (ap paperReached (c .reached3 .given .1)) ∙ c .before .before .forward .ensures
 
-lies : (c : tie.After-reached3) → ReachedEntry (c .before .before .before .before .before .args .log .now) (c .before .before .before .before .before .args .range) (c .reached3 .given .0 .0) (c .reached3 .given .0 .1 .0) (c .reached3 .given .0 .1 .1 .0) (c .reached3 .given .0 .1 .1 .1 .0)
+lies : (c : tie.After-reached3) →
+    let args = c .before .before .before .before .before .args in
+    let entry = c .reached3 .given .0 in
+    ReachedEntry (args .log .now) (args .range) (entry .0) (entry .1 .0) (entry .1 .1 .0) (entry .1 .1 .1 .0)
 lies c = reached-entry _ _ _ _ _ _ _ (is-reached c)
 
 returns : tie.Need-returns

@@ -8,8 +8,10 @@ use Rattle.log.proofs.searching.compare.Statement.{statement}
 use Rattle.log.proofs.searching.compare.Tie as tie
 
 -- at a whole entry
-entered : (c : tie.After-known-told)
-    → entryAt (c .before .before .before .before .before .args .log .now) (c .before .before .before .before .before .args .s) ≡ whole (c .before .entry .given .0 .0) (c .before .entry .given .0 .1 .0) (c .before .entry .given .0 .1 .1 .0)
+entered : (c : tie.After-known-told) →
+    let args = c .before .before .before .before .before .args in
+    let entry = c .before .entry .given .0 in
+    entryAt (args .log .now) (args .s) ≡ whole (entry .0) (entry .1 .0) (entry .1 .1 .0)
 entered c = sym (c .before .before .before .read .ensures) ∙ ap paperEntry (c .before .entry .given .1)
 
 read-requires : tie.Need-read-requires
