@@ -1,5 +1,6 @@
 pub mod Sound
 pub mod Output
+pub mod Last
 pub mod Push
 pub mod Recovery
 pub mod Check

@@ -1,4 +1,4 @@
--- Rules 11, "What is promised", 11.8 and 11.9: a store with its state, the calls, what they answer and what they leave, and the settled ids.
+-- Rules 11, "What is promised", 11.8 to 11.10: a store with its state, the calls, what they answer and what they leave, and the settled ids.
 use Prim.Native.Nat.{ℕ, _^_, _≤_, _<_}
 use mathlib.Core.Path.{_≡_}
 use mathlib.Core.List.{List, [], _∷_, List·Memᴰ}
@@ -115,8 +115,14 @@ pub record Begun (w : World) : Type 0 where
 
 -- ---- settled ids
 
--- 11.9 "1 or more, not above the last stored id, and below next"
+-- 11.10 "1 or more, at most last written, and below next"
 pub record Settled (w : World) (id : ℕ) : Type 0 where
+  pub some : 1 ≤ id
+  pub most : id ≤ w .state .last
+  pub below : id < w .state .next
+
+-- 11.10 "at most the id of the last entry stored"
+pub record SettledByStored (w : World) (id : ℕ) : Type 0 where
   pub some : 1 ≤ id
   pub below : id < w .state .next
   pub page : ℕ
@@ -150,7 +156,7 @@ Gives recover r id s d = Unit {0}
 abbrev pub Answers : World → ℕ → Standing → List ℕ → Type 0
 Answers w id s d = (c : Call) → Gives c (answer w c) id s d
 
--- 11.9 "It is found exactly if it is stored": found with the entry's position, data length and data; absent where no entry has the id
+-- 11.10 "It is found exactly if it is stored": found with the entry's position, data length and data; absent where no entry has the id
 abbrev pub ExactlyStored : List ℕ → ℕ → Standing → List ℕ → Type 0
 ExactlyStored log id (present position len) d = (entry : Stored log id position len) × (d ≡ dataAt log (entry .page) len) × (length d ≡ len)
 ExactlyStored log id (missing position) d = ((p : ℕ) → Start log p → idAt log p ≡ id → ⊥) × (d ≡ [])
@@ -162,7 +168,7 @@ pub record Keeps (w : World) (id : ℕ) (s : Standing) (d : List ℕ) : Type 0 w
   pub answers : Answers w id s d
   pub exact : ExactlyStored (logOf w) id s d
 
--- 11.9 "gives what the first one gave": that is chosen before any later call is; every later call keeps it, and every later lookup gave it
+-- 11.10 "gives what the first one gave": that is chosen before any later call is; every later call keeps it, and every later lookup gave it
 pub record KeepsFirst (w : World) (id : ℕ) : Type 0 where
   pub stands : Standing
   pub data-is : List ℕ
@@ -171,7 +177,7 @@ pub record KeepsFirst (w : World) (id : ℕ) : Type 0 where
 
 -- ---- reading back
 
--- 11.8 "found by every later lookup with enough output, with its data and at one position, while its id is below next"
+-- 11.9 "found by every later lookup with enough output, with its data and at one position, while its id is below next"
 pub record ReadsBack (w : World) (id : ℕ) (d : List ℕ) : Type 0 where
   pub position : ℕ
   pub reads : (later : List Call) → id < run w later .state .next → Answers (run w later) id (present position (length d)) d

@@ -1,16 +1,13 @@
 -- Rules 11, "What is promised", 11.3 and 11.7: what a push adds to the log, and what it leaves of a sound one.
 use Prim.Native.Nat.{ℕ, zero, suc, _+_, _≤_, _<_}
 use mathlib.Core.Path.{_≡_}
-use mathlib.Core.Bool.{_||_}
 use mathlib.Core.List.{List, [], _++_}
-use lib.Dec.{eqb}
 use lib.ListN.{length, getD, take, drop}
-use Rattle.refusal.specs.Pick.{pick}
 use Rattle.page.specs.Size.{idSize}
 use Rattle.page.specs.Entry.{lengthAt, idAt}
 use Rattle.page.specs.Data.{dataAt}
 use Rattle.page.specs.Write.{entryPages}
-use Rattle.pushing.specs.Push.{Why, none, refused, Pushing, entryData, bytesFor, Done, pushOf}
+use Rattle.pushing.specs.Push.{entryData, bytesFor, Done, pushOf}
 use Rattle.log.specs.declared.state.State.{State}
 use Rattle.demands.specs.Sound.{Start, SoundStore}
 
@@ -69,19 +66,10 @@ pub record AlikeFrom (q r : Push) (j k : ℕ) : Type 0 where
   pub same-id : (i : ℕ) → idIn q (j + i) ≡ idIn r (k + i)
   pub same-data : (i : ℕ) → dataIn q (j + i) ≡ dataIn r (k + i)
 
--- the id of the last of the first n entries; what it was before if there is none
+-- 4.3 "last written becomes its id": the id of the last of the first n entries; what it was before if there is none
 abbrev pub lastOf : State → List ℕ → ℕ → ℕ
 lastOf st ids zero = st .last
 lastOf st ids (suc n) = getD ids n 0
-
--- after n entries were written; 4.3 "So an id that 3 or 4 refuses is used up"
-abbrev pub lastFor : Why → State → List ℕ → ℕ → ℕ
-lastFor none st ids n = lastOf st ids n
-lastFor (refused number value) st ids n = pick (eqb number 3 || eqb number 4) (getD ids n 0) (lastOf st ids n)
-
--- on any input: last written after a push
-abbrev pub lastAfter : State → List ℕ → Pushing → ℕ
-lastAfter st ids r = lastFor (r .reason) st ids (r .written)
 
 -- the log holds an entry with that id and that data
 pub record Holds (log : List ℕ) (id : ℕ) (d : List ℕ) : Type 0 where

@@ -58,3 +58,8 @@ pub record Missing (log : List ℕ) (id position : ℕ) : Type 0 where
 pub record Last (log : List ℕ) (p : ℕ) : Type 0 where
   pub start : Start log p
   pub none : (q : ℕ) → Start log q → q ≤ p
+
+-- 11.8 "the id of the last entry stored, 0 if there is none"
+pub data LastStored (log : List ℕ) (id : ℕ) : Type 0 where
+  nothing-stored : ((p : ℕ) → Start log p → ⊥) → id ≡ 0 → LastStored log id
+  last-entry : (p : ℕ) → Last log p → idAt log p ≡ id → LastStored log id

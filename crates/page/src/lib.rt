@@ -5,8 +5,8 @@ mod marks;
 mod writing;
 
 ghost use mathlib.Core.Path.{_≡_};
-ghost use Prim.Native.Nat.{_<_};
-ghost use Rattle.page.specs.Size.{dataEnd, pagesFor, pagesForData, pageCount};
+ghost use Prim.Native.Nat.{_+_, _^_, _<_};
+ghost use Rattle.page.specs.Size.{idSize, pagesFor, pagesForData, pageCount};
 pub use copying::copy_data;
 pub use entry::Entry;
 pub use marks::Mark;
@@ -57,7 +57,7 @@ impl Page {
 
     // The pages of n data bytes.
     pub fn pages_for_data(n: usize) -> usize
-        requires { ⌜ n < dataEnd ⌝ }
+        requires { ⌜ idSize + n < 2 ^ 64 ⌝ }
         ensures { λ r. ⌜ r ≡ pagesForData n ⌝ }
     {
         Self::pages_for(Self::ID_SIZE + n)

@@ -87,15 +87,11 @@ point st store = record { state = st; store = store }
 abbrev pub logAt : Point → List ℕ
 logAt p = take (p .state .length) (p .store)
 
--- 4.3 "set last written to its id"
-abbrev pub used : ℕ → Point → Point
-used id p = point (movedTo (p .state) (p .state .length) id) (p .store)
-
 -- the bytes of an entry's pages
 abbrev pub bytesFor : List ℕ → ℕ
 bytesFor d = pagesForData (length d) * pageSize
 
--- 4.3 "write its pages from length on and add them to length"
+-- 4.3 "its pages are written from length on, length grows by them, and last written becomes its id"
 unfoldable pub wrote : ℕ → List ℕ → Point → Point
 wrote id d p = point (movedTo (p .state) (p .state .length + bytesFor d) id) (logAt p ++ overwritten (drop (p .state .length) (p .store)) (entryPages id d))
 
@@ -111,16 +107,16 @@ done why n p = record { answer = pushing why n (p .state); store = p .store }
 abbrev pub refuse : ℕ → ℕ → Point → Round Done Point
 refuse number j p = stop (done (refused number 0) j p)
 
--- 3: 3.1 "an entry's id and data reach 2^24 bytes"; 4: 3.1 "after length the store has fewer bytes than the entry's pages take"; else they are written
-unfoldable pub writing : ℕ → ℕ → List ℕ → Point → Round Done Point
-writing j id d p =
-    pick (leb payloadEnd (idSize + length d)) (refuse 3 j p)
-    (pick (ltb (length (p .store) - p .state .length) (bytesFor d)) (refuse 4 j p)
-    (again (wrote id d p)))
-
--- 4.3 "test 2; set last written to its id; test 3, then 4; write its pages": entry j
+-- 4.3 "2, then 3, then 4; else its pages are written": entry j
 unfoldable pub turn : ℕ → ℕ → List ℕ → Point → Round Done Point
-turn j id d p = pick (leb id (p .state .last)) (refuse 2 j p) (writing j id d (used id p))
+turn j id d p =
+    -- 3.1 "an entry's id is at or below last written"
+    pick (leb id (p .state .last)) (refuse 2 j p)
+    -- 3.1 "an entry's id and data reach 2^24 bytes"
+    (pick (leb payloadEnd (idSize + length d)) (refuse 3 j p)
+    -- 3.1 "after length the store has fewer bytes than the entry's pages take"
+    (pick (ltb (length (p .store) - p .state .length) (bytesFor d)) (refuse 4 j p)
+    (again (wrote id d p))))
 
 -- the n entries from entry j on
 unfoldable pub entriesFrom : List ℕ → List ℕ → List ℕ → ℕ → ℕ → Point → Done

@@ -4,7 +4,7 @@ use page::Page;
 use refusal::Refusal;
 ghost use mathlib.Core.Path.{_≡_};
 ghost use mathlib.Core.Bool.{false};
-ghost use Prim.Native.Nat.{ℕ, _≤_};
+ghost use Prim.Native.Nat.{_≤_};
 ghost use lib.ListN.{length};
 ghost use Rattle.refusal.specs.Refusal.{numberOf, valueOf};
 ghost use Rattle.pushing.specs.Push.{badBatch, someLarge, pushing, refused, paperPushed, point, turn, entriesFrom, pushOf};
@@ -75,32 +75,29 @@ fn is_some_large(ids: &[u64], ends: &[u64], bytes: &[u8]) -> bool
     false
 }
 
-// What an entry's turn comes to: the state after its pages, or a refusal and the state with it.
+// What an entry's turn comes to: the state after its pages, or the push's end.
 enum EntryTurn {
     Written(State),
-    Refused(Refusal, State),
+    Ended(Pushed),
 }
 
-// An entry's turn: its tests in order, then its pages.
-fn write_in_turn(store: &mut [u8], state: State, id: u64, bytes: &[u8]) -> EntryTurn
+// An entry's turn, after so many entries written: its tests in order, then its pages.
+fn write_in_turn(store: &mut [u8], state: State, written: usize, id: u64, bytes: &[u8]) -> EntryTurn
     requires { ⌜ state .length ≤ length (now store) ⌝ }
-    ensures { λ r. ⌜ ((j : ℕ) → paperEntryTurn j (now (store .exit)) r ≡ turn j id (now (bytes .entry)) (point state (now (store .entry)))) ⌝ }
+    ensures { λ r. ⌜ paperEntryTurn (now (store .exit)) r ≡ turn written id (now (bytes .entry)) (point state (now (store .entry))) ⌝ }
 {
     let at = state.length as usize;
-    // both told before the tests, so that testing room first is an edit of one line: must-fail/room_before_order
+    let last = state.last;
     let room = (store.len() - at) / Page::SIZE;
-    let out_of_order = id <= state.last;
-    if out_of_order {
-        return EntryTurn::Refused(Refusal::OutOfOrder, state);
-    }
-    // 3 and 4 use up the id
-    let used = state.moved(state.length, id);
-    if Page::DATA_END <= bytes.len() {
-        return EntryTurn::Refused(Refusal::TooLarge, used);
-    }
     let pages = Page::pages_for_data(bytes.len());
+    if id <= last {
+        return EntryTurn::Ended(refused(Refusal::OutOfOrder, written, state));
+    }
+    if Page::DATA_END <= bytes.len() {
+        return EntryTurn::Ended(refused(Refusal::TooLarge, written, state));
+    }
     if room < pages {
-        return EntryTurn::Refused(Refusal::NoRoom, used);
+        return EntryTurn::Ended(refused(Refusal::NoRoom, written, state));
     }
     page::write_entry(&mut store[at..], id, bytes);
     EntryTurn::Written(state.moved((at + pages * Page::SIZE) as u64, id))
@@ -122,8 +119,8 @@ fn write_entries(
     let mut written = 0;
     while written < ids.len() {
         let end = ends[written] as usize;
-        match write_in_turn(store, state, ids[written], &bytes[from..end]) {
-            EntryTurn::Refused(refusal, after) => return refused(refusal, written, after),
+        match write_in_turn(store, state, written, ids[written], &bytes[from..end]) {
+            EntryTurn::Ended(pushed) => return pushed,
             EntryTurn::Written(after) => state = after,
         }
         from = end;

@@ -14,7 +14,7 @@ use Rattle.log.specs.State.{fresh, stateOf}
 use Rattle.log.specs.Guess.{leastFrom, leastShift, offsetOf}
 use Rattle.log.specs.Lookup.{Looking, found, absent, refused, allPages, guessIn, compared, sayingAt, turned, walk, search, searchOf, findOf}
 use Rattle.log.specs.Recovery.{Recovering, recovered, refused as unrecovered, atLast, walkBack, recoverLog, recoverOf}
-use Rattle.pushing.specs.Push.{Why, none, refused as unpushed, Done, entryData, some, badEnd, badBatch, largeData, someLarge, wrote, writing, turn, entriesFrom, pushOf}
+use Rattle.pushing.specs.Push.{Why, none, refused as unpushed, Done, entryData, some, badEnd, badBatch, largeData, someLarge, wrote, turn, entriesFrom, pushOf}
 use Rattle.log.specs.declared.state.State.{State}
 use Rattle.sequence.specs.Window.{only, shifted}
 use Rattle.sequence.specs.Sequence.{completeOf, rounds, noteOf}
@@ -122,5 +122,5 @@ asWritten =
 
 -- what the definitions compute is what the rules say
 pub worked : computed ≡ asWritten
-unfolding computed asWritten ofState ofLook ofWhy ofPush ofRecovery ofAnswer pagesFor pageAt numberAt bytesOf markAt lengthAt idAt entryAt filled firstPage laterPage laterPages entryPages tooLong badState leastFrom leastShift offsetOf compared sayingAt turned walk search searchOf findOf atLast walkBack recoverLog recoverOf entryData some badEnd badBatch largeData someLarge wrote writing turn entriesFrom pushOf only shifted rounds noteOf answered run
+unfolding computed asWritten ofState ofLook ofWhy ofPush ofRecovery ofAnswer pagesFor pageAt numberAt bytesOf markAt lengthAt idAt entryAt filled firstPage laterPage laterPages entryPages tooLong badState leastFrom leastShift offsetOf compared sayingAt turned walk search searchOf findOf atLast walkBack recoverLog recoverOf entryData some badEnd badBatch largeData someLarge wrote turn entriesFrom pushOf only shifted rounds noteOf answered run
 worked = refl

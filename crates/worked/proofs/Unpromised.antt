@@ -1,8 +1,9 @@
 -- Examples of Rules 12, "What is not promised", and that what the theorems ask for is needed. Assumes nothing.
-use Prim.Native.Nat.{ℕ, zero, suc}
+use Prim.Native.Nat.{ℕ}
 use mathlib.Core.Path.{_≡_, refl}
 use mathlib.Core.List.{List, [], _∷_, _++_}
-use lib.Dec.{lit<}
+use native.Mathlib.Omega.{arith}
+use lib.Dec.{lit<, lit≤}
 use lib.ListN.{getD, take, drop, replicate}
 use Rattle.page.specs.Size.{pagesFor, pageAt}
 use Rattle.page.specs.Bytes.{numberAt, bytesOf}
@@ -15,12 +16,14 @@ use Rattle.log.specs.Recovery.{recovered, atLast, walkBack, recoverLog, recover
 use Rattle.log.specs.Check.{refused, laterMarks, checkStart, checkPage, checkEnd, checkFrom, checkOf}
 use Rattle.log.specs.Guess.{leastFrom, leastShift, offsetOf}
 use Rattle.log.specs.Lookup.{absent, compared, sayingAt, turned, walk, search, searchOf, findOf}
-use Rattle.pushing.specs.Push.{entryData, some, badEnd, badBatch, largeData, someLarge, wrote, writing, turn, entriesFrom, pushOf}
+use Rattle.pushing.specs.Push.{entryData, some, badEnd, badBatch, largeData, someLarge, wrote, turn, entriesFrom, pushOf}
 use Rattle.demands.specs.Sound.{SoundStore}
 use Rattle.demands.specs.Push.{batchPages, Push, pagesOf}
-use Rattle.demands.specs.History.{Words, Call, push, take-id, recover, answer, step, run}
+use Rattle.demands.specs.History.{World, world, logOf, take-id, recover, answer, step, run, Settled, SettledByStored}
+use Rattle.demands.proofs.Last.{stored-greatest}
 use Rattle.demands.proofs.Check.Passing.{checked-sound}
-use Rattle.worked.proofs.Witnessed.{store, begins, other}
+use Rattle.demands.proofs.History.Demands.{last-is-stored}
+use Rattle.worked.proofs.Witnessed.{store, store-is-sound, begins, begins-there, other}
 
 -- ---- 12.1: what passes the sound check
 
@@ -49,19 +52,6 @@ pub dropped-comes-again : run begins (take-id ∷ recover ∷ take-id ∷ []) �
 unfolding pagesFor pageAt numberAt bytesOf markAt lengthAt idAt entryAt filled firstPage laterPage laterPages entryPages tooLong takeOf atLast walkBack recoverLog recoverOf answer step run
 dropped-comes-again = refl
 
-pub four-word : Words (4 ∷ [])
-four-word zero = lit< tt
-four-word (suc k) = lit< tt
-
--- a push that the two pages of room do not hold
-abbrev too-much : Call
-too-much = push (4 ∷ []) (2036 ∷ []) (replicate 2036 0) four-word
-
--- one that 4 used up
-pub refused-comes-again : run begins (take-id ∷ too-much ∷ recover ∷ take-id ∷ []) ≡ run begins (take-id ∷ [])
-unfolding pagesFor pageAt numberAt bytesOf markAt lengthAt idAt entryAt filled firstPage laterPage laterPages entryPages tooLong badState takeOf atLast walkBack recoverLog recoverOf entryData some badEnd badBatch largeData someLarge wrote writing turn entriesFrom pushOf answer step run
-refused-comes-again = refl
-
 -- ---- 12.3: faults that are not told
 
 -- a bad mark on the idle page, which no recovery reads
@@ -85,7 +75,7 @@ unfolding pagesFor pageAt numberAt bytesOf markAt lengthAt idAt entryAt filled f
 stale-is-sound = checked-sound stale 4096 .0 refl
 
 pub stale-stays : getD (pushOf stale (begins .state) (5 ∷ []) (1 ∷ []) (8 ∷ []) .store) 20 0 ≡ 5
-unfolding pagesFor pageAt bytesOf filled firstPage laterPage laterPages entryPages tooLong badState entryData some badEnd badBatch largeData someLarge wrote writing turn entriesFrom pushOf
+unfolding pagesFor pageAt bytesOf filled firstPage laterPage laterPages entryPages tooLong badState entryData some badEnd badBatch largeData someLarge wrote turn entriesFrom pushOf
 stale-stays = refl
 
 -- ---- 11.3 asks that the entries are counted: of an id and data pushed twice, the second, which is refused, leaves 255s
@@ -94,11 +84,23 @@ abbrev twice : Push
 twice = record { store = replicate 2048 255; state = fresh; ids = 1 ∷ 1 ∷ []; ends = 1 ∷ 2 ∷ []; bytes = 8 ∷ 8 ∷ [] }
 
 pub only-the-first : (take 1 (pagesOf twice 0) ≡ 1 ∷ []) × (take 1 (pagesOf twice 1) ≡ 255 ∷ [])
-unfolding pagesFor pageAt bytesOf filled firstPage laterPage laterPages entryPages tooLong badState entryData some badEnd badBatch largeData someLarge wrote writing turn entriesFrom pushOf batchPages
+unfolding pagesFor pageAt bytesOf filled firstPage laterPage laterPages entryPages tooLong badState entryData some badEnd badBatch largeData someLarge wrote turn entriesFrom pushOf batchPages
 only-the-first = (refl, refl)
 
 -- ---- 11.7 asks for a last written at or above the last stored id: with one that was made up a push leaves a log that is not sound
 
 pub made-up-last : checkOf (pushOf store (stateOf 4096 0 4) (1 ∷ []) (0 ∷ []) [] .store) 5120 ≡ refused 15 4
-unfolding pagesFor pageAt numberAt bytesOf markAt lengthAt idAt entryAt filled firstPage laterPage laterPages entryPages tooLong badState entryData some badEnd badBatch largeData someLarge wrote writing turn entriesFrom pushOf laterMarks checkStart checkPage checkEnd checkFrom checkOf
+unfolding pagesFor pageAt numberAt bytesOf markAt lengthAt idAt entryAt filled firstPage laterPage laterPages entryPages tooLong badState entryData some badEnd badBatch largeData someLarge wrote turn entriesFrom pushOf laterMarks checkStart checkPage checkEnd checkFrom checkOf
 made-up-last = refl
+
+-- ---- 11.8 and 11.10 ask for a history: in a state that was made up 5 is settled by last written, and above the last stored id
+
+abbrev made-up : World
+made-up = world store (stateOf 4096 9 10)
+
+five-by-last : Settled made-up 5
+five-by-last = record { some = lit≤ tt; most = lit≤ tt; below = lit< tt }
+
+pub made-up-settled : Settled made-up 5 × (SettledByStored made-up 5 → ⊥)
+unfolding run
+made-up-settled = (five-by-last, λ h. omega (arith, h .most, stored-greatest (logOf begins) (store-is-sound .sound) 3 (last-is-stored begins begins-there []) (h .page) (h .last .start)))

@@ -4,6 +4,9 @@
 --   any-guess-right                           by guesses that are not the rule's: other-guesses, other-guesses-right
 --   refused-lookup-keeps, refused-step-keeps  in a state that is refused 1: lookup-kept, step-kept
 --   settled, begun-settled                    from its recovered state, 3 stays found and 2 absent: three-stays-found, two-stays-absent, three-was-given
+--   settled-by-stored                         3 is settled by the last entry stored too: three-settled
+--   refused-keeps-id, tried-again             4 is refused for room, and taken with less data: four-refused, four-tried-again
+--   last-is-stored                            it is the last id stored then: four-is-last
 --   push-right, push-whole                    5 is pushed: five-is-held, all-written
 --   pages-alone, earlier-hidden               5 after 9, 9, 9 over 255s, by itself after that log, after 6: five-alike, nines-hidden
 --   filling-written                           of its second page, over 255s: five-filled
@@ -26,10 +29,10 @@ use Rattle.page.specs.Entry.{lengthAt, idAt, entryAt}
 use Rattle.page.specs.Data.{placeOf, dataOf, dataAt}
 use Rattle.page.specs.Write.{filled, firstPage, laterPage, laterPages, entryPages}
 use Rattle.log.specs.Round.{stop, again}
-use Rattle.log.specs.Bounds.{tooLong, badState, Fits}
+use Rattle.log.specs.Bounds.{tooLong, badState, Fits, Good}
 use Rattle.log.specs.State.{fresh, stateOf, takeOf}
-use Rattle.demands.specs.Sound.{Start, SoundStore, Last}
-use Rattle.demands.specs.Push.{logAfter, Holds, Push, dataIn, pagesOf, AlikeFrom}
+use Rattle.demands.specs.Sound.{Start, SoundStore, Last, LastStored}
+use Rattle.demands.specs.Push.{logAfter, Holds, Ready, Push, dataIn, pagesOf, AlikeFrom}
 use Rattle.demands.specs.Recovery.{RightRecovery}
 use Rattle.demands.specs.Lookup.{present, missing, RightStanding, Room, RightLookup, AnyGuess, stops, narrows}
 use Rattle.demands.specs.Scan.{Enough, Scans}
@@ -37,16 +40,18 @@ use Rattle.log.specs.Guess.{leastFrom, leastShift, offsetOf}
 use Rattle.log.specs.Lookup.{found, roundFrom, window, allPages, compared, sayingAt, turned, walk, search, searchOf, findOf, handFound, lookupOf}
 use Rattle.log.specs.Check.{laterMarks, checkStart, checkPage, checkEnd, checkFrom, checkOf}
 use Rattle.log.specs.Recovery.{cutLog, atLast, walkBack, recoverLog, recoverOf}
-use Rattle.pushing.specs.Push.{entryData, some, badEnd, badBatch, largeData, someLarge, wrote, writing, turn, entriesFrom, pushOf}
+use Rattle.pushing.specs.Push.{none, pushing, entryData, some, badEnd, badBatch, largeData, someLarge, wrote, turn, entriesFrom, pushOf}
 use Rattle.scanning.specs.Range.{holdsOf}
 use Rattle.scanning.specs.Scan.{scanOf}
 use Rattle.scanning.specs.Step.{stepStart, stepPage, forward, forwardFrom, stepOf}
 use Rattle.scanning.specs.declared.Range.{Range}
 use Rattle.scanning.specs.declared.End.the-variants.{Open}
-use Rattle.demands.specs.History.{World, world, logOf, Words, Call, push, take-id, find, lookup, answer, step, run, said, Begun, Settled, LooksUp, Gives, Answers, ReadsBack}
+use Rattle.demands.specs.History.{World, world, logOf, Words, Call, push, take-id, find, lookup, answer, step, run, said, Begun, Settled, SettledByStored, LooksUp, Gives, Answers, ReadsBack}
 use Rattle.page.proofs.Runs.{data-one-part}
 use Rattle.demands.proofs.Check.Passing.{checked-sound}
 use Rattle.demands.proofs.Push.Batch.{push-right, push-whole}
+use Rattle.demands.proofs.Last.{stored-ready}
+use Rattle.demands.proofs.Push.Again.{tried-again}
 use Rattle.demands.proofs.Push.Alone.{pages-alone, earlier-hidden, filling-written}
 use Rattle.demands.proofs.Recovery.Resuming.{recover-right, recover-alike}
 use Rattle.demands.proofs.History.Lasting.{standingData}
@@ -62,7 +67,7 @@ use Rattle.sequence.specs.Known.{Known}
 use Rattle.sequence.specs.History.{begun, RightSequence, run as run-notes}
 use Rattle.sequence.proofs.Adds.{note-adds}
 use Rattle.sequence.proofs.Complete.{complete-right}
-use Rattle.demands.proofs.History.Demands.{begun-lives, begun-settled, settled, read-back}
+use Rattle.demands.proofs.History.Demands.{begun-lives, begun-settled, last-is-stored, settled-by-stored, settled, read-back}
 use Rattle.worked.proofs.Listed.{ninePage}
 
 -- ---- a sound log: id 1 with a byte, an idle page, id 3 on two pages
@@ -90,7 +95,7 @@ store-is-sound = checked-sound store 4096 .0 refl
 abbrev pub begins : World
 begins = world store (stateOf 4096 3 4)
 
-begins-there : Begun begins
+pub begins-there : Begun begins
 unfolding pagesFor pageAt numberAt bytesOf markAt lengthAt idAt entryAt filled firstPage laterPage laterPages entryPages tooLong atLast walkBack recoverLog recoverOf
 begins-there = record { size = 4096; sound = store-is-sound .sound; excess = 0; is = refl }
 
@@ -109,12 +114,12 @@ last-there = record {
   none = λ q h. ⊎-elim (λ e. omega arith) (λ e. omega arith) (starts-there q h);
 }
 
-three-is : idAt (logOf begins) 2 ≡ 3
-unfolding pagesFor pageAt numberAt bytesOf idAt filled firstPage laterPage laterPages entryPages
-three-is = refl
-
 settled-there : (id : ℕ) → 1 ≤ id → id ≤ 3 → Settled begins id
-settled-there id some most = begun-settled begins begins-there 2 id last-there some (rw three-is most)
+settled-there id some most = begun-settled begins begins-there id some most
+
+pub three-settled : SettledByStored begins 3
+unfolding run
+three-settled = settled-by-stored begins begins-there [] 3 .0 (settled-there 3 (lit≤ tt) (lit≤ tt))
 
 -- ---- id 3 is found and id 2 is absent, through any calls
 
@@ -179,34 +184,63 @@ one-word (suc k) = lit< tt
 abbrev pushes-five : Call
 pushes-five = push (5 ∷ []) (1 ∷ []) (8 ∷ []) one-word
 
+ready-there : Ready store (begins .state)
+ready-there = let i = begun-lives begins begins-there in stored-ready store (begins .state) (i .good) (i .last)
+
 pub five-is-held : Holds (logAfter (pushOf store (begins .state) (5 ∷ []) (1 ∷ []) (8 ∷ []))) 5 (8 ∷ [])
-unfolding pagesFor pageAt bytesOf filled firstPage laterPage laterPages entryPages tooLong badState entryData some badEnd badBatch largeData someLarge wrote writing turn entriesFrom pushOf
-five-is-held = push-right (5 ∷ []) (1 ∷ []) (8 ∷ []) one-word store (begins .state) (begun-lives begins begins-there) .held 0 (lit< tt)
+unfolding pagesFor pageAt bytesOf filled firstPage laterPage laterPages entryPages tooLong badState entryData some badEnd badBatch largeData someLarge wrote turn entriesFrom pushOf
+five-is-held = push-right (5 ∷ []) (1 ∷ []) (8 ∷ []) one-word store (begins .state) ready-there .held 0 (lit< tt)
 
 pub all-written : pushOf store (begins .state) (5 ∷ []) (1 ∷ []) (8 ∷ []) .answer .written ≡ 1
-unfolding pagesFor pageAt bytesOf filled firstPage laterPage laterPages entryPages tooLong badState entryData some badEnd badBatch largeData someLarge wrote writing turn entriesFrom pushOf
+unfolding pagesFor pageAt bytesOf filled firstPage laterPage laterPages entryPages tooLong badState entryData some badEnd badBatch largeData someLarge wrote turn entriesFrom pushOf
 all-written = push-whole (5 ∷ []) (1 ∷ []) (8 ∷ []) store (begins .state) refl
 
 abbrev pushed-five : World
 pushed-five = step (run begins takes) pushes-five
 
 pub five-reads-back : ReadsBack pushed-five 5 (8 ∷ [])
-unfolding pagesFor pageAt bytesOf filled firstPage laterPage laterPages entryPages tooLong badState takeOf entryData some badEnd badBatch largeData someLarge wrote writing turn entriesFrom pushOf answer step run
+unfolding pagesFor pageAt bytesOf filled firstPage laterPage laterPages entryPages tooLong badState takeOf entryData some badEnd badBatch largeData someLarge wrote turn entriesFrom pushOf answer step run
 five-reads-back = read-back begins begins-there takes (5 ∷ []) (1 ∷ []) (8 ∷ []) one-word 0 (lit< tt)
 
 five-settled : Settled pushed-five 5
-unfolding pagesFor pageAt numberAt markAt idAt bytesOf filled firstPage laterPage laterPages entryPages tooLong badState takeOf entryData some badEnd badBatch largeData someLarge wrote writing turn entriesFrom pushOf answer step run
-five-settled = record {
-  some = lit≤ tt;
-  below = lit< tt;
-  page = 4;
-  last = record { start = record { inside = lit< tt; marked = refl }; none = λ q h. let i : q < 5 = h .inside in omega arith };
-  most = lit≤ tt;
-}
+unfolding pagesFor bytesOf filled firstPage laterPage laterPages entryPages tooLong badState takeOf entryData some badEnd badBatch largeData someLarge wrote turn entriesFrom pushOf answer step run
+five-settled = record { some = lit≤ tt; most = lit≤ tt; below = lit< tt }
 
 pub five-stays-read : (later : List Call) → Answers (run pushed-five later) 5 (present (five-reads-back .position) 1) (8 ∷ [])
 unfolding run
 five-stays-read later = five-reads-back .reads later (settled begins begins-there (take-id ∷ take-id ∷ pushes-five ∷ []) 5 five-settled .kept later .settled .below)
+
+-- ---- 4 is pushed with more than the two pages of room hold, and again with a byte
+
+pub four-word : Words (4 ∷ [])
+four-word zero = lit< tt
+four-word (suc k) = lit< tt
+
+abbrev too-much : Call
+too-much = push (4 ∷ []) (2036 ∷ []) (replicate 2036 0) four-word
+
+abbrev smaller : Call
+smaller = push (4 ∷ []) (1 ∷ []) (8 ∷ []) four-word
+
+-- the refused push leaves the store and the state
+pub four-refused : run begins (take-id ∷ too-much ∷ []) ≡ run begins (take-id ∷ [])
+unfolding pagesFor bytesOf filled firstPage laterPage laterPages entryPages tooLong badState takeOf entryData some badEnd badBatch largeData someLarge wrote turn entriesFrom pushOf answer step run
+four-refused = refl
+
+abbrev refused-four : Push
+refused-four = record { store = store; state = stateOf 4096 3 5; ids = 4 ∷ []; ends = 2036 ∷ []; bytes = replicate 2036 0 }
+
+good-there : Good store 4096
+unfolding pagesFor bytesOf filled firstPage laterPage laterPages entryPages
+good-there = record { fits = store-is-sound .fits; whole = refl }
+
+pub four-tried-again : pushOf store (stateOf 4096 3 5) (4 ∷ []) (1 ∷ []) (8 ∷ []) .answer ≡ pushing none 1 (stateOf 5120 4 5)
+unfolding pagesFor bytesOf filled firstPage laterPage laterPages entryPages tooLong badState entryData some badEnd badBatch largeData someLarge wrote turn entriesFrom pushOf
+four-tried-again = tried-again refused-four 4 (inr refl) refl store (8 ∷ []) good-there (lit< tt) (lit≤ tt)
+
+pub four-is-last : LastStored (logOf (run begins (take-id ∷ too-much ∷ smaller ∷ []))) 4
+unfolding pagesFor bytesOf filled firstPage laterPage laterPages entryPages tooLong badState takeOf entryData some badEnd badBatch largeData someLarge wrote turn entriesFrom pushOf answer step run
+four-is-last = last-is-stored begins begins-there (take-id ∷ too-much ∷ smaller ∷ [])
 
 -- ---- the pages of 5 are the same wherever it is pushed
 
@@ -227,11 +261,11 @@ abbrev by-itself : Push
 by-itself = record { store = store; state = begins .state; ids = 5 ∷ []; ends = 1013 ∷ []; bytes = eights }
 
 pub five-alike : pagesOf after-nines 1 ≡ pagesOf by-itself 0
-unfolding pagesFor pageAt bytesOf filled firstPage laterPage laterPages entryPages tooLong badState entryData some badEnd badBatch largeData someLarge wrote writing turn entriesFrom pushOf
+unfolding pagesFor pageAt bytesOf filled firstPage laterPage laterPages entryPages tooLong badState entryData some badEnd badBatch largeData someLarge wrote turn entriesFrom pushOf
 five-alike = pages-alone after-nines by-itself 1 0 (lit< tt) (lit< tt) refl refl
 
 pub five-filled : drop 1026 (pagesOf after-nines 1) ≡ replicate 1022 0
-unfolding pagesFor pageAt bytesOf filled firstPage laterPage laterPages entryPages tooLong badState entryData some badEnd badBatch largeData someLarge wrote writing turn entriesFrom pushOf placeOf
+unfolding pagesFor pageAt bytesOf filled firstPage laterPage laterPages entryPages tooLong badState entryData some badEnd badBatch largeData someLarge wrote turn entriesFrom pushOf placeOf
 five-filled = filling-written after-nines 1 (lit< tt)
 
 data-alike : (i : ℕ) → dataIn after-nines (1 + i) ≡ dataIn after-six (1 + i)
@@ -244,7 +278,7 @@ alike-from-five : AlikeFrom after-nines after-six 1 1
 alike-from-five = record { same-id = λ i. refl; same-data = data-alike }
 
 pub nines-hidden : pagesOf after-nines 1 ≡ pagesOf after-six 1
-unfolding pagesFor pageAt bytesOf filled firstPage laterPage laterPages entryPages tooLong badState entryData some badEnd badBatch largeData someLarge wrote writing turn entriesFrom pushOf
+unfolding pagesFor pageAt bytesOf filled firstPage laterPage laterPages entryPages tooLong badState entryData some badEnd badBatch largeData someLarge wrote turn entriesFrom pushOf
 nines-hidden = earlier-hidden after-nines after-six 1 1 alike-from-five 0 (lit< tt) (lit< tt)
 
 -- ---- guesses that are not the rule's come to the same answer: the first of all pages, and then the last of those left

@@ -44,12 +44,12 @@ state 0 0 1
 name two pages, push 1 with 5 bytes and 2 with 1013
 long 2048 - - 1 2 - 5 1018 -
 untouched
-name   push 2 with 1 byte after that
-long 2048 - - 2 - - 1 - -
-name   push 3 with 1012 bytes after that
-long 2048 - - 3 - - 1012 - -
+name   push 2 again, with 1012 bytes
+long 2048 - - 2 - - 1012 - -
 name   push 4, 2 after that
 long 2048 - - 4 2 - 0 0 -
+name   push 2, 4 after that
+long 2048 - - 2 4 - 0 0 -
 name an empty batch
 entries 0 0 ignored - - - - - -
 untouched

@@ -1,7 +1,7 @@
 -- Demand 3, and the last sentence of demand 2. Assumes nothing.
 use Prim.Native.Nat.{ℕ, _-_, _*_, _/_, _≤_, _<_}
 use mathlib.Core.Path.{_≡_, refl, sym, ap, _∙_, subst}
-use mathlib.Core.Logic.{⊎-elim}
+use mathlib.Core.Logic.{_↔_, ⊎-elim}
 use mathlib.Core.List.{List, [], _∷_, _++_, List·Memᴰ, List·Memᴰ·not-nil, List·Memᴰ·cases-cons}
 use native.Mathlib.Omega.{arith}
 use lib.ListN.{length, getD}
@@ -13,16 +13,17 @@ use Rattle.log.specs.Recovery.{excessOf, cutLog}
 use Rattle.log.specs.Lookup.{findOf}
 use Rattle.log.specs.declared.state.State.{State}
 use Rattle.log.proofs.Laws.Bounds.{length-log}
-use Rattle.demands.specs.Sound.{Start, Sound, Last}
+use Rattle.demands.specs.Sound.{Sound, LastStored, nothing-stored, last-entry}
 use Rattle.demands.specs.Push.{Holds}
 use Rattle.demands.specs.Lookup.{Standing, present, standing, RightStanding}
-use Rattle.demands.specs.History.{World, logOf, Words, Call, push, step, answer, run, Said, said, Begun, Settled, Answer, Gives, Answers, Keeps, KeepsFirst, ReadsBack}
+use Rattle.demands.specs.History.{World, logOf, Words, Call, push, step, answer, run, Said, said, Begun, Settled, SettledByStored, Answer, Gives, Answers, Keeps, KeepsFirst, ReadsBack}
 use Rattle.demands.proofs.Lookup.Right.{find-right, find-stored, right-unique}
+use Rattle.demands.proofs.Last.{stored-greatest, stored-ready}
 use Rattle.demands.proofs.Push.Appending.{holds-kept}
 use Rattle.demands.proofs.Push.Batch.{push-right}
-use Rattle.demands.proofs.Recovery.Resuming.{last-greatest, Resumed, from-empty, from-last, recovered-fits, recovered-last}
+use Rattle.demands.proofs.Recovery.Resuming.{Resumed, recovered-fits, recovered-resumes}
 use Rattle.demands.proofs.History.Lasting.{right-grows, standingData, data-grows, right-exact, right-answers}
-use Rattle.demands.proofs.History.Moving.{Grows, Lives, Moved, stays-settled, moved, moved-run}
+use Rattle.demands.proofs.History.Moving.{Grows, Lives, Moved, moved, moved-run}
 
 -- ---- where a history begins
 
@@ -34,44 +35,43 @@ module _ (w : World) (b : Begun w) where
   fits = recovered-fits (w .store) (b .size) (w .state) (b .excess) (b .is)
 
   resumed : Resumed begun-log (w .state)
-  resumed = recovered-last (w .store) (b .size) (w .state) (b .excess) (b .sound) (b .is) .0
-
-  size-is : length begun-log ≡ b .size - excessOf (b .size)
-  size-is = length-log (w .store) (b .size - excessOf (b .size)) (omega (arith, fits .inside))
+  resumed = recovered-resumes (w .store) (b .size) (w .state) (b .excess) (b .sound) (b .is) .0
 
   -- the recovered length is the log's
   pub same-length : w .state .length ≡ b .size - excessOf (b .size)
-  same-length = go resumed
-    where
-      go : Resumed begun-log (w .state) → w .state .length ≡ b .size - excessOf (b .size)
-      go (from-empty z e) = ap (λ (st : State). st .length) e ∙ sym z ∙ size-is
-      go (from-last p l e) = ap (λ (st : State). st .length) e ∙ size-is
+  same-length = resumed .size ∙ length-log (w .store) (b .size - excessOf (b .size)) (omega (arith, fits .inside))
 
   pub begun-lives : Lives w
   begun-lives = record {
     good = rw same-length (record { fits = record { small = fits .small; inside = omega (arith, fits .inside) }; sound = b .sound });
-    under = rw same-length (go resumed);
+    last = rw same-length (resumed .last);
   }
-    where
-      go : Resumed begun-log (w .state) → (p : ℕ) → Start begun-log p → idAt begun-log p ≤ w .state .last
-      go (from-empty z e) p h = absurd (omega (arith, h .inside))
-      go (from-last q l e) p h =
-          let m = ap (λ (st : State). st .last) e in
-          omega (arith, m, last-greatest begun-log (b .sound) q p l h)
 
-  -- every stored id is below next there
-  begun-next : (p : ℕ) → Start (logOf w) p → idAt (logOf w) p < w .state .next
-  begun-next = rw same-length (go resumed)
-    where
-      go : Resumed begun-log (w .state) → (p : ℕ) → Start begun-log p → idAt begun-log p < w .state .next
-      go (from-empty z e) p h = absurd (omega (arith, h .inside))
-      go (from-last q l e) p h =
-          let m = ap (λ (st : State). st .next) e in
-          omega (arith, m, last-greatest begun-log (b .sound) q p l h)
+  -- every id from 1 to last written is settled where a history begins: the demand is about something
+  pub begun-settled : (id : ℕ) → 1 ≤ id → id ≤ w .state .last → Settled w id
+  begun-settled id some most = record { some = some; most = most; below = omega (arith, resumed .next) }
 
-  -- so every id from 1 to the last one stored is settled where a history begins: the demand is about something
-  pub begun-settled : (p id : ℕ) → Last (logOf w) p → 1 ≤ id → id ≤ idAt (logOf w) p → Settled w id
-  begun-settled p id l some most = record { some = some; below = omega (arith, begun-next p (l .start)); page = p; last = l; most = most }
+-- ---- 11.8: through any calls last written is the id of the last entry stored
+
+pub last-is-stored : (w : World) → Begun w → (calls : List Call) → LastStored (logOf (run w calls)) (run w calls .state .last)
+last-is-stored w b calls = moved-run w calls (begun-lives w b) .lives .last
+
+-- so settled by the one is settled by the other
+module _ (w : World) (i : Lives w) (id : ℕ) where
+  to-stored : Settled w id → SettledByStored w id
+  to-stored h = go (i .last)
+    where
+      go : LastStored (logOf w) (w .state .last) → SettledByStored w id
+      go (nothing-stored none e) = absurd (omega (arith, h .some, h .most))
+      go (last-entry p l e) = record { some = h .some; below = h .below; page = p; last = l; most = omega (arith, h .most, e) }
+
+  from-stored : SettledByStored w id → Settled w id
+  from-stored h = record { some = h .some; most = omega (arith, h .most, stored-greatest (logOf w) (i .good .sound) (w .state .last) (i .last) (h .page) (h .last .start)); below = h .below }
+
+pub settled-by-stored : (w : World) → Begun w → (calls : List Call) (id : ℕ) → Settled (run w calls) id ↔ SettledByStored (run w calls) id
+settled-by-stored w b calls id =
+    let i = moved-run w calls (begun-lives w b) .lives in
+    (to-stored (run w calls) i id, from-stored (run w calls) i id)
 
 -- ---- the first answer
 
@@ -91,18 +91,20 @@ module _ (w v : World) (i : Lives w) (m : Moved w v) (id : ℕ) (h : Settled w i
   right-before = right-there w i id (h .some) (h .below)
 
   right-after : RightStanding (logOf v) id (standsIn w id)
-  right-after = rw (m .grows .is) (right-grows (logOf w) (m .grows .more) sound-grown id (h .page) (h .last .start) (h .most) (standsIn w id) right-before)
+  right-after =
+      let l = to-stored w i id h in
+      rw (m .grows .is) (right-grows (logOf w) (m .grows .more) sound-grown id (l .page) (l .last .start) (l .most) (standsIn w id) right-before)
 
   -- it stands where it stood
   pub same-answer : standsIn v id ≡ standsIn w id
-  same-answer = right-unique (logOf v) (m .lives .good .sound) id (standsIn v id) (standsIn w id) (right-there v (m .lives) id (h .some) (m .next id h)) right-after
+  same-answer = right-unique (logOf v) (m .lives .good .sound) id (standsIn v id) (standsIn w id) (right-there v (m .lives) id (h .some) (m .settled id h .below)) right-after
 
   same-data : standingData (logOf v) (standsIn w id) ≡ standingData (logOf w) (standsIn w id)
   same-data = rw (m .grows .is) (data-grows (logOf w) (m .grows .more) (i .good .sound) id (standsIn w id) right-before)
 
   pub kept-answer : Keeps v id (standsIn w id) (standingData (logOf w) (standsIn w id))
   kept-answer = record {
-    settled = stays-settled m id h;
+    settled = m .settled id h;
     answers = rw same-data at (right-answers v id (standsIn w id) same-answer right-after);
     exact = rw same-data at (right-exact (logOf v) id (standsIn w id) right-after);
   }
@@ -122,7 +124,7 @@ answered-in w (c ∷ cs) x m = ⊎-elim
     (λ i. let a = answered-in (step w c) cs x i in record { earlier = c ∷ a .earlier; is = a .is })
     (List·Memᴰ·cases-cons m)
 
--- DEMAND 3, 11.9: through any sequence of calls, refused ones included, from a sound log and its recovered state, a settled id keeps its first answer: found exactly if it is stored
+-- DEMAND 3, 11.10: through any sequence of calls, refused ones included, from a sound log and its recovered state, a settled id keeps its first answer: found exactly if it is stored
 unfoldable pub settled : (w : World) → Begun w → (earlier : List Call) (id : ℕ) → Settled (run w earlier) id → KeepsFirst (run w earlier) id
 settled w b earlier id h =
     let v = run w earlier in
@@ -158,7 +160,7 @@ held-on : {a b : List ℕ} → Grows a b → Sound a → {id : ℕ} {d : List �
 unfolding holds-kept
 held-on {a} {b} g s {id} {d} h = rw (g .is) (holds-kept a (g .more) id d s h, refl)
 
--- 11.8: from a sound log and its recovered state, after any calls, each entry that a push counts as written
+-- 11.9: from a sound log and its recovered state, after any calls, each entry that a push counts as written
 pub read-back : (w : World) → Begun w → (earlier : List Call) (ids ends bytes : List ℕ) (words : Words ids) (k : ℕ)
     → k < pushOf (run w earlier .store) (run w earlier .state) ids ends bytes .answer .written
     → ReadsBack (step (run w earlier) (push ids ends bytes words)) (getD ids k 0) (entryData ends bytes k)
@@ -168,7 +170,7 @@ read-back w b earlier ids ends bytes words k l =
     let i = moved-run w earlier (begun-lives w b) .lives in
     let u = step v (push ids ends bytes words) in
     let j = moved v i (push ids ends bytes words) .lives in
-    let h = push-right ids ends bytes words (v .store) (v .state) i .held k l in
+    let h = push-right ids ends bytes words (v .store) (v .state) (stored-ready (v .store) (v .state) (i .good) (i .last)) .held k l in
     record {
       position = h .page * pageSize;
       reads = λ later below.

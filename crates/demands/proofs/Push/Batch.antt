@@ -2,7 +2,7 @@
 use Prim.Native.Nat.{ℕ, zero, suc, _+_, _-_, _^_, _≤_, _<_}
 use mathlib.Core.Path.{_≡_, refl, sym, ap, _∙_}
 use mathlib.Core.Logic.{⊎-elim}
-use mathlib.Core.List.{List, _++_, append-assoc, append-nil}
+use mathlib.Core.List.{List, [], _++_, append-assoc, append-nil}
 use native.Mathlib.Omega.{arith}
 use lib.ListN.{length, getD, take, drop, length-append, length-drop}
 use lib.Seq.{take-at, drop-at, drop-drop, length-take-le}
@@ -11,12 +11,13 @@ use Rattle.page.specs.Size.{dataEnd}
 use Rattle.page.specs.Entry.{idAt}
 use Rattle.page.specs.Write.{entryPages}
 use Rattle.page.proofs.Joining.{length-entry}
-use Rattle.pushing.specs.Push.{Why, none, refused, entryData, Point, point, logAt, used, bytesFor, wrote, Done, done, entriesFrom, pushOf}
+use Rattle.pushing.specs.Push.{Why, none, refused, entryData, Point, point, logAt, bytesFor, wrote, Done, done, entriesFrom, pushOf}
 use Rattle.log.specs.declared.state.State.{State}
 use Rattle.demands.proofs.Push.Ways.{by-batch, by-turn}
-use Rattle.demands.specs.Sound.{Start}
-use Rattle.demands.specs.Push.{batchPages, logAfter, Grown, lastOf, lastAfter, Holds, Ready, RightPush}
+use Rattle.demands.specs.Sound.{Start, SoundStore, LastStored, last-entry}
+use Rattle.demands.specs.Push.{batchPages, logAfter, Grown, lastOf, Holds, Ready, RightPush}
 use Rattle.demands.specs.History.{Words}
+use Rattle.demands.proofs.Last.{greatest-last, stored-ready}
 use Rattle.demands.proofs.Push.Appending.{holds-kept, sound-append, most-append, holds-append}
 
 -- ---- an entry written
@@ -69,7 +70,7 @@ wrote-last id d p = refl
 module _ (id : ℕ) (d : List ℕ) (p : Point) (fits : bytesFor d ≤ length (p .store) - p .state .length)
     (word : id < 2 ^ 64) (short : length d < dataEnd) (r : Ready (p .store) (p .state)) (above : p .state .last < id) where
   abbrev after : Point
-  after = wrote id d (used id p)
+  after = wrote id d p
 
   within : p .state .length ≤ length (p .store)
   within = r .good .fits .inside
@@ -78,7 +79,7 @@ module _ (id : ℕ) (d : List ℕ) (p : Point) (fits : bytesFor d ≤ length (p 
   over q h = omega (arith, r .under q h)
 
   log-after : logAt after ≡ logAt p ++ entryPages id d
-  log-after = wrote-log id d (used id p) within fits
+  log-after = wrote-log id d p within fits
 
   wrote-holds : Holds (logAt after) id d
   wrote-holds = rw log-after (holds-append (logAt p) (r .good .sound) id d (omega arith) word short over)
@@ -87,12 +88,12 @@ module _ (id : ℕ) (d : List ℕ) (p : Point) (fits : bytesFor d ≤ length (p 
   wrote-ready = record {
     good = record {
       fits = record {
-        small = omega (arith, r .good .fits .small, wrote-size id d (used id p) within fits);
-        inside = wrote-inside id d (used id p) within fits;
+        small = omega (arith, r .good .fits .small, wrote-size id d p within fits);
+        inside = wrote-inside id d p within fits;
       };
       sound = rw log-after (sound-append (logAt p) (r .good .sound) id d (omega arith) word short over);
     };
-    under = rw (log-after, wrote-last id d (used id p)) (most-append (logAt p) (r .good .sound) id d (omega arith) word short over);
+    under = rw (log-after, wrote-last id d p) (most-append (logAt p) (r .good .sound) id d (omega arith) word short over);
   }
 
 -- ---- the entries in turn
@@ -119,19 +120,19 @@ module _ (log₀ ids ends bytes : List ℕ) where
     d = entryData ends bytes j
 
     abbrev then : Point
-    then = wrote id d (used id p)
+    then = wrote id d p
 
     log-then : logAt p ≡ log₀ ++ batchPages ids ends bytes j → logAt then ≡ log₀ ++ batchPages ids ends bytes (suc j)
     unfolding batchPages
-    log-then l = wrote-log id d (used id p) inside fits ∙ rw l (append-assoc log₀ (batchPages ids ends bytes j) (entryPages id d))
+    log-then l = wrote-log id d p inside fits ∙ rw l (append-assoc log₀ (batchPages ids ends bytes j) (entryPages id d))
 
     grown-more : (r : Done) → GrownFrom log₀ ids ends bytes then r → GrownFrom log₀ ids ends bytes p r
     grown-more r h = record {
       log = h .log;
-      after = h .after ∙ wrote-after id d (used id p) inside fits (r .answer .state .length) (h .reach);
-      reach = omega (arith, h .reach, wrote-length id d (used id p) inside fits);
-      size = h .size ∙ wrote-size id d (used id p) inside fits;
-      next = h .next ∙ wrote-next id d (used id p) inside fits;
+      after = h .after ∙ wrote-after id d p inside fits (r .answer .state .length) (h .reach);
+      reach = omega (arith, h .reach, wrote-length id d p inside fits);
+      size = h .size ∙ wrote-size id d p inside fits;
+      next = h .next ∙ wrote-next id d p inside fits;
     }
 
   grown-from : (n j : ℕ) (p : Point) → p .state .length ≤ length (p .store) → logAt p ≡ log₀ ++ batchPages ids ends bytes j → GrownFrom log₀ ids ends bytes p (entriesFrom ids ends bytes n j p)
@@ -139,9 +140,9 @@ module _ (log₀ ids ends bytes : List ℕ) where
   grown-from zero j p o l = grown-none j p p none l refl refl refl
   grown-from (suc n) j p o l = by-turn ids ends bytes n j p (GrownFrom log₀ ids ends bytes p)
       (λ a. grown-none j p p (refused 2 0) l refl refl refl)
-      (λ a b. grown-none j p (used (getD ids j 0) p) (refused 3 0) l refl refl refl)
-      (λ a b c. grown-none j p (used (getD ids j 0) p) (refused 4 0) l refl refl refl)
-      (λ a b c. grown-more j p o c _ (grown-from n (suc j) _ (wrote-inside (getD ids j 0) (entryData ends bytes j) (used (getD ids j 0) p) o c) (log-then j p o c l)))
+      (λ a b. grown-none j p p (refused 3 0) l refl refl refl)
+      (λ a b c. grown-none j p p (refused 4 0) l refl refl refl)
+      (λ a b c. grown-more j p o c _ (grown-from n (suc j) _ (wrote-inside (getD ids j 0) (entryData ends bytes j) p o c) (log-then j p o c l)))
 
 -- ---- THEOREM: on any input a push grows the log by the pages of exactly the entries it counts, and changes no other byte
 
@@ -166,11 +167,11 @@ module _ (store : List ℕ) (st : State) (ids ends bytes : List ℕ) where
   pub push-grows : Grown store st ids ends bytes (pushOf store st ids ends bytes)
   push-grows = record { log = grown .log; after = grown .after; size = grown .size; next = grown .next }
 
--- ---- THEOREM: on any input last written after a push is the id of the last entry written, or that of the entry refused by 3 or 4
+-- ---- THEOREM: on any input last written after a push is the id of the last entry counted, and stays where none is
 
 -- shut, so that antt sees which push it is asked of
 LastWrittenIs : State → List ℕ → Done → Type 0
-LastWrittenIs st ids r = r .answer .state .last ≡ lastAfter st ids (r .answer)
+LastWrittenIs st ids r = r .answer .state .last ≡ lastOf st ids (r .answer .written)
 
 module _ (st : State) (ids ends bytes : List ℕ) where
   last-kept : (n j : ℕ) (p : Point) → p .state .last ≡ lastOf st ids j → LastWrittenIs st ids (entriesFrom ids ends bytes n j p)
@@ -178,18 +179,15 @@ module _ (st : State) (ids ends bytes : List ℕ) where
   last-kept zero j p e = e
   last-kept (suc n) j p e = by-turn ids ends bytes n j p (LastWrittenIs st ids)
       (λ a. e)
-      (λ a b. refl)
-      (λ a b c. refl)
-      (λ a b c. last-kept n (suc j) _ (wrote-last (getD ids j 0) (entryData ends bytes j) (used (getD ids j 0) p)))
+      (λ a b. e)
+      (λ a b c. e)
+      (λ a b c. last-kept n (suc j) _ (wrote-last (getD ids j 0) (entryData ends bytes j) p))
 
-  pub push-last : (store : List ℕ) → pushOf store st ids ends bytes .answer .state .last ≡ lastAfter st ids (pushOf store st ids ends bytes .answer)
+  pub push-last : (store : List ℕ) → pushOf store st ids ends bytes .answer .state .last ≡ lastOf st ids (pushOf store st ids ends bytes .answer .written)
   unfolding LastWrittenIs
   push-last store = by-batch store st ids ends bytes (LastWrittenIs st ids) refl refl refl (λ l. last-kept (length ids) 0 (point st store) refl)
 
 -- ---- THEOREM: onto a sound log, with last written at or above the last stored id, it stays so and holds every entry counted
-
-used-ready : (id : ℕ) (p : Point) → p .state .last < id → Ready (p .store) (p .state) → Ready (p .store) (used id p .state)
-used-ready id p a r = record { good = r .good; under = λ q h. omega (arith, r .under q h) }
 
 module _ (ids ends bytes : List ℕ) (words : Words ids) where
   -- the log holds the first j entries
@@ -206,7 +204,7 @@ module _ (ids ends bytes : List ℕ) (words : Words ids) where
     abbrev own : List ℕ
     own = entryData ends bytes j
 
-    holds-more : p .state .last < this → length own < dataEnd → bytesFor own ≤ length (p .store) - p .state .length → HoldsBelow (suc j) (logAt (wrote this own (used this p)))
+    holds-more : p .state .last < this → length own < dataEnd → bytesFor own ≤ length (p .store) - p .state .length → HoldsBelow (suc j) (logAt (wrote this own p))
     holds-more a b c k l = ⊎-elim
         (λ s. rw (log-after this own p c (words j) b r a) (holds-kept (logAt p) (entryPages this own) (getD ids k 0) (entryData ends bytes k) (r .good .sound) (h k s)))
         (λ s. let e : k ≡ j = omega arith in rw e (wrote-holds this own p c (words j) b r a))
@@ -217,8 +215,8 @@ module _ (ids ends bytes : List ℕ) (words : Words ids) where
   right-from zero j p r h = right-none j p none r h
   right-from (suc n) j p r h = by-turn ids ends bytes n j p (RightPush ids ends bytes)
       (λ a. right-none j p (refused 2 0) r h)
-      (λ a b. right-none j (used (getD ids j 0) p) (refused 3 0) (used-ready (getD ids j 0) p a r) h)
-      (λ a b c. right-none j (used (getD ids j 0) p) (refused 4 0) (used-ready (getD ids j 0) p a r) h)
+      (λ a b. right-none j p (refused 3 0) r h)
+      (λ a b c. right-none j p (refused 4 0) r h)
       (λ a b c. right-from n (suc j) _ (wrote-ready (getD ids j 0) (entryData ends bytes j) p c (words j) b r a) (holds-more j p r h a b c))
 
   pub push-right : (store : List ℕ) (st : State) → Ready store st → RightPush ids ends bytes (pushOf store st ids ends bytes)
@@ -226,6 +224,39 @@ module _ (ids ends bytes : List ℕ) (words : Words ids) where
       let none-yet : HoldsBelow 0 (logAt (point st store)) = λ k l. absurd (omega arith) in
       let still : (number : ℕ) → RightPush ids ends bytes (done (refused number 0) 0 (point st store)) = λ number. right-none 0 (point st store) (refused number 0) r none-yet in
       by-batch store st ids ends bytes (RightPush ids ends bytes) (still 1) (still 13) (still 16) (λ l. right-from (length ids) 0 (point st store) r none-yet)
+
+-- ---- THEOREM: onto a sound log whose last stored id is last written, last written is the last stored id again
+
+module _ (ids ends bytes : List ℕ) (words : Words ids) (store : List ℕ) (st : State) (good : SoundStore store (st .length)) (last : LastStored (take (st .length) store) (st .last)) where
+  abbrev left : Done
+  left = pushOf store st ids ends bytes
+
+  right : RightPush ids ends bytes left
+  right = push-right ids ends bytes words store st (stored-ready store st good last)
+
+  -- no entry is counted: neither the log nor last written has moved
+  stored-still : left .answer .written ≡ 0 → LastStored (logAfter left) (left .answer .state .last)
+  unfolding batchPages
+  stored-still e =
+      let n : left .answer .state .last ≡ st .last = rw e at (push-last st ids ends bytes store) in
+      let l : logAfter left ≡ take (st .length) store ++ [] = rw e at (push-grows store st ids ends bytes .log) in
+      rw (l, append-nil (take (st .length) store), n) last
+
+  -- the last entry counted has the greatest id
+  stored-new : (m : ℕ) → left .answer .written ≡ suc m → LastStored (logAfter left) (left .answer .state .last)
+  stored-new m e =
+      let n : left .answer .state .last ≡ getD ids m 0 = rw e at (push-last st ids ends bytes store) in
+      let h = right .held m (omega arith) in
+      last-entry (h .page)
+      (greatest-last (logAfter left) (right .ready .good .sound) (h .page) (h .start) (λ q b. omega (arith, right .ready .under q b, n, h .has)))
+      (h .has ∙ sym n)
+
+  pub push-stored : LastStored (logAfter left) (left .answer .state .last)
+  push-stored = go (left .answer .written) refl
+    where
+      go : (n : ℕ) → left .answer .written ≡ n → LastStored (logAfter left) (left .answer .state .last)
+      go zero e = stored-still e
+      go (suc m) e = stored-new m e
 
 -- ---- THEOREM: a push that is not refused wrote every entry
 
@@ -247,8 +278,8 @@ module _ (ids ends bytes : List ℕ) where
   all-from k zero j p l = to-the-end k j p (omega arith)
   all-from k (suc n) j p l = by-turn ids ends bytes n j p (AllWritten k)
       (λ a. cut-short k 2 j p)
-      (λ a b. cut-short k 3 j (used (getD ids j 0) p))
-      (λ a b c. cut-short k 4 j (used (getD ids j 0) p))
+      (λ a b. cut-short k 3 j p)
+      (λ a b c. cut-short k 4 j p)
       (λ a b c. all-from k n (suc j) _ (omega arith))
 
   pub push-whole : (store : List ℕ) (st : State) → pushOf store st ids ends bytes .answer .reason ≡ none → pushOf store st ids ends bytes .answer .written ≡ length ids

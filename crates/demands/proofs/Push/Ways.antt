@@ -11,7 +11,7 @@ use Rattle.log.specs.Round.{Round, follow}
 use Rattle.log.specs.Bounds.{badState}
 use Rattle.log.specs.declared.state.State.{State}
 use Rattle.log.proofs.Laws.Bounds.{good-state}
-use Rattle.pushing.specs.Push.{refused, badBatch, someLarge, Point, point, used, bytesFor, wrote, Done, done, entryData, entriesFrom, pushOf}
+use Rattle.pushing.specs.Push.{refused, badBatch, someLarge, Point, point, bytesFor, wrote, Done, done, entryData, entriesFrom, pushOf}
 use Rattle.pushing.proofs.Laws.Tests.{EntrySays, out-of-order, too-large, full-store, pages-fit, entry-says}
 
 -- ---- the whole batch
@@ -40,9 +40,9 @@ module _ (ids ends bytes : List ℕ) (n j : ℕ) (p : Point) where
   -- what holds of each thing that entry j's turn may come to holds of the push from entry j on
   pub by-turn : (P : Done → Type 0)
       → (id ≤ p .state .last → P (done (refused 2 0) j p))
-      → (p .state .last < id → dataEnd ≤ length d → P (done (refused 3 0) j (used id p)))
-      → (p .state .last < id → length d < dataEnd → length (p .store) - p .state .length < bytesFor d → P (done (refused 4 0) j (used id p)))
-      → (p .state .last < id → length d < dataEnd → bytesFor d ≤ length (p .store) - p .state .length → P (entriesFrom ids ends bytes n (suc j) (wrote id d (used id p))))
+      → (p .state .last < id → dataEnd ≤ length d → P (done (refused 3 0) j p))
+      → (p .state .last < id → length d < dataEnd → length (p .store) - p .state .length < bytesFor d → P (done (refused 4 0) j p))
+      → (p .state .last < id → length d < dataEnd → bytesFor d ≤ length (p .store) - p .state .length → P (entriesFrom ids ends bytes n (suc j) (wrote id d p)))
       → P (entriesFrom ids ends bytes (suc n) j p)
   unfolding entriesFrom
   by-turn P two three four on = go _ (entry-says j id d p)

@@ -1,5 +1,5 @@
 -- What recovery gives where the log that is left after the cut is sound, and which bytes it reads. Assumes nothing.
-use Prim.Native.Nat.{ℕ, zero, suc, _-_, _*_, _/_, _%_, _≤_, _<_}
+use Prim.Native.Nat.{ℕ, zero, suc, _+_, _-_, _*_, _/_, _%_, _≤_, _<_}
 use mathlib.Core.Path.{_≡_, refl, sym, ap, _∙_}
 use mathlib.Core.Bool.{true, false}
 use mathlib.Core.Logic.{⊎-elim}
@@ -16,24 +16,12 @@ use Rattle.page.proofs.Reading.{mark-same, entry-same}
 use Rattle.page.proofs.Starting.{whole-at}
 use Rattle.log.specs.Bounds.{Fits, tooLong}
 use Rattle.log.specs.State.{fresh, recoveredAt, topId}
-use Rattle.log.specs.Recovery.{Recovering, recovered, atLast, walkBack, excessOf, cutLog, recoverOf}
+use Rattle.log.specs.Recovery.{Recovering, recovered, refused, atLast, walkBack, excessOf, cutLog, recoverOf}
 use Rattle.log.specs.declared.state.State.{State}
 use Rattle.log.proofs.Laws.Bounds.{fitting, not-too-long}
 use Rattle.log.proofs.Laws.Recovery.Steps.{last-used, last-goes-on, back-start, back-bad, back-later, length-cut, cut-pages, recover-bad, recover-fresh, recover-tail}
-use Rattle.demands.specs.Sound.{Start, Sound, Last}
+use Rattle.demands.specs.Sound.{Start, Sound, Last, LastStored, nothing-stored, last-entry}
 use Rattle.demands.specs.Recovery.{RightRecovery, empty, used-up, goes-on}
-
--- ---- the last start
-
-pub last-unique : (log : List ℕ) (p q : ℕ) → Last log p → Last log q → p ≡ q
-last-unique log p q l m = omega (arith, l .none q (m .start), m .none p (l .start))
-
--- on a sound log it has the greatest id
-pub last-greatest : (log : List ℕ) → Sound log → (p q : ℕ) → Last log p → Start log q → idAt log q ≤ idAt log p
-last-greatest log s p q l b = ⊎-elim
-    (λ e. omega (arith, ap (idAt log) e))
-    (⊎-elim (λ a. omega (arith, s .rising q p b (l .start) a)) (λ a. absurd (omega (arith, l .none q b))))
-    (order q p)
 
 -- ---- the walk back on a sound log ends at the last start
 
@@ -110,19 +98,26 @@ recovered-fits store n st excess e = ⊎-elim refused-one (fitting store n) (whi
         let bad = recover-bad store n t in
         absurd (let z : _≡_ {A = ℕ} 0 1 = cc in omega arith)
 
--- the state that a recovery gives: fresh and no page, or that of the last entry
-pub data Resumed (log : List ℕ) (st : State) : Type 0 where
-  from-empty : length log ≡ 0 → st ≡ fresh → Resumed log st
-  from-last : (p : ℕ) → Last log p → st ≡ recoveredAt (length log) (idAt log p) → Resumed log st
+-- a state that goes on with a log: its length, its last stored id, and one more
+pub record Resumed (log : List ℕ) (st : State) : Type 0 where
+  pub size : st .length ≡ length log
+  pub last : LastStored log (st .last)
+  pub next : st .next ≡ st .last + 1
 
-pub recovered-last : (store : List ℕ) (n : ℕ) (st : State) (excess : ℕ) → Sound (cutLog store n) → recoverOf store n ≡ recovered st excess
+-- what holds of 9, and of each such state, holds of a recovery
+pub by-recovery : {log : List ℕ} {excess : ℕ} (P : Recovering → Type 0) → P (refused 9 0) → ((st : State) → Resumed log st → P (recovered st excess))
+    → (r : Recovering) → RightRecovery log excess r → P r
+by-recovery P nine on r (empty z) = on fresh (record { size = sym z; last = nothing-stored (λ p h. omega (arith, h .inside)) refl; next = refl })
+by-recovery P nine on r (used-up p l u) = nine
+by-recovery {log} P nine on r (goes-on p l u) = on (recoveredAt (length log) (idAt log p)) (record { size = refl; last = last-entry p l refl; next = refl })
+
+pub recovered-resumes : (store : List ℕ) (n : ℕ) (st : State) (excess : ℕ) → Sound (cutLog store n) → recoverOf store n ≡ recovered st excess
     → Resumed (cutLog store n) st × (excess ≡ excessOf n)
-recovered-last store n st excess s e = go (recoverOf store n) (recover-right store n (recovered-fits store n st excess e) s) e
-  where
-    go : (r : Recovering) → RightRecovery (cutLog store n) (excessOf n) r → r ≡ recovered st excess → Resumed (cutLog store n) st × (excess ≡ excessOf n)
-    go r (empty z) e = (from-empty z (cc), cc)
-    go r (used-up p l u) e = absurd (let z : _≡_ {A = ℕ} 0 1 = cc in omega arith)
-    go r (goes-on p l u) e = (from-last p l (cc), cc)
+recovered-resumes store n st excess s e =
+    by-recovery (λ r. r ≡ recovered st excess → Resumed (cutLog store n) st × (excess ≡ excessOf n))
+    (λ f. absurd (let z : _≡_ {A = ℕ} 0 1 = cc in omega arith))
+    (λ st′ h f. let g : st ≡ st′ = cc in (rw g h, cc))
+    (recoverOf store n) (recover-right store n (recovered-fits store n st excess e) s) e
 
 -- ---- only that tail is read: from a start s on
 

@@ -8,35 +8,36 @@ use native.Mathlib.Numerals.{add-one}
 use native.Mathlib.Omega.{arith}
 use lib.ListN.{length, getD, take, drop}
 use lib.Seq.{drop-drop}
-use Rattle.refusal.specs.Refusal.{numberOf, valueOf}
-use Rattle.refusal.specs.declared.Refusal.{Refusal}
 use Rattle.page.specs.Size.{dataEnd}
 use Rattle.page.specs.Write.{overwritten, entryPages}
 use Rattle.page.proofs.Parting.{put-back}
-use Rattle.log.specs.Round.{Round, again, follow}
-use Rattle.log.specs.State.{movedTo}
-use Rattle.pushing.specs.Push.{none, refused, Pushing, pushing, before, entryData, badBatch, Point, point, used, bytesFor, wrote, Done, done, refuse, turn, entriesFrom}
+use Rattle.log.specs.Round.{Round, stop, again, follow}
+use Rattle.log.specs.State.{stateOf, movedTo}
+use Rattle.pushing.specs.Push.{none, refused, Pushing, pushing, paperPushed, before, entryData, badBatch, Point, point, bytesFor, wrote, Done, done, refuse, turn, entriesFrom}
 use Rattle.pushing.specs.Private.{paperEntryTurn}
 use Rattle.log.specs.declared.state.State.{State}
 use Rattle.pushing.specs.declared.EntryTurn.{EntryTurn}
-use Rattle.pushing.specs.declared.EntryTurn.the-variants.{Written, Refused}
+use Rattle.pushing.specs.declared.EntryTurn.the-variants.{Written, Ended}
+use Rattle.pushing.specs.declared.Pushed.{Pushed}
 use Rattle.pushing.proofs.Laws.Ends.{DataLies, good-counts, data-lies}
-use Rattle.pushing.proofs.Laws.Tests.{EntrySays, out-of-order, too-large, full-store, pages-fit, turn-large, turn-full, turn-write, entry-says}
+use Rattle.pushing.proofs.Laws.Tests.{EntrySays, out-of-order, too-large, full-store, pages-fit, turn-write, entry-says}
 
 -- ---- an entry's turn
 
-module _ (id : ℕ) (d : List ℕ) (st : State) (store : List ℕ) (above : st .last < id) (j : ℕ) where
+module _ (st : State) (store : List ℕ) (j : ℕ) where
   abbrev this : Point
   this = point st store
 
-  pub refuse-too-large : (st′ : State) (l : ℕ) → st′ ≡ movedTo st (st .length) l → l ≡ id → dataEnd ≤ length d → refuse 3 j (point st′ store) ≡ turn j id d this
-  refuse-too-large st′ l m u b = rw (m, u) (sym (turn-large j id d this above b))
+  -- a refusal ends the push: its number, and the state as it stood
+  pub ends-with : (number : ℕ) (a : Pushing) (k : ℕ) (st′ : State) → a ≡ pushing (refused k 0) j st′ → k ≡ number
+      → st′ .length ≡ st .length → st′ .last ≡ st .last → st′ .next ≡ st .next
+      → stop (record { answer = a; store = store }) ≡ refuse number j this
+  ends-with number a k st′ e f n l x =
+      let s : stateOf (st′ .length) (st′ .last) (st′ .next) ≡ st = rw (n, l, x) in
+      ap (λ (y : Pushing). stop (record { answer = y; store = store })) (e ∙ rw f (ap (pushing (refused number 0) j) s))
 
   -- the bytes of its pages, as the code has them
-  module _ (small : length d < dataEnd) (k : ℕ) (e : k ≡ bytesFor d) where
-    pub refuse-no-room : (st′ : State) (l : ℕ) → st′ ≡ movedTo st (st .length) l → l ≡ id → length store - st .length < k → refuse 4 j (point st′ store) ≡ turn j id d this
-    refuse-no-room st′ l m u c = rw (m, u) (sym (turn-full j id d this above small (rw e at c)))
-
+  module _ (id : ℕ) (d : List ℕ) (above : st .last < id) (small : length d < dataEnd) (k : ℕ) (e : k ≡ bytesFor d) where
     -- the pages are written to the rest of the store
     pub write-pages : k ≤ length store - st .length
         → (ys store′ : List ℕ)
@@ -57,7 +58,7 @@ turn-room j id d p q r l (out-of-order a) e = absurd (let z : _≡_ {A = ℕ} 0 
 turn-room j id d p q r l (too-large a b) e = absurd (let z : _≡_ {A = ℕ} 0 1 = cc in omega arith)
 turn-room j id d p q r l (full-store a b c) e = absurd (let z : _≡_ {A = ℕ} 0 1 = cc in omega arith)
 turn-room j id d p q r l (pages-fit a b c) e =
-    let m : q ≡ wrote id d (used id p) = cc in
+    let m : q ≡ wrote id d p = cc in
     let n : q .state .length ≡ p .state .length + bytesFor d = ap (λ (x : Point). x .state .length) m in
     omega arith
 
@@ -116,16 +117,19 @@ module _ {store₀ : List ℕ} {st₀ : State} {ids ends bytes store : List ℕ}
         let m : length ids - j ≡ suc left = omega arith in
         ap (follow rest) e ∙ rw (h .from-is) (rw m at (h .same))
 
-    module _ (store′ : List ℕ) (r : EntryTurn) (turned : (i : ℕ) → paperEntryTurn i store′ r ≡ turn i (getD ids j 0) (take (getD ends j 0 - from) (drop from bytes)) here) where
-      pub entries-refused : (x : Refusal) (st′ : State) → r ≡ Refused x st′ → (a : Pushing) (n : ℕ) → a ≡ pushing (refused (numberOf x) (valueOf x)) n st′ → n ≡ j
-          → (a ≡ whole .answer) × (store′ ≡ whole .store)
-      entries-refused x st′ e a n f q =
-          let w : done (refused (numberOf x) (valueOf x)) j (point st′ store′) ≡ whole = in-turn _ (rw e at (turned j)) in
-          (f ∙ rw q (ap (λ (y : Done). y .answer) w), ap (λ (y : Done). y .store) w)
+    -- entry n's turn, as the code has it
+    module _ (store′ : List ℕ) (r : EntryTurn) (n : ℕ) (turned : paperEntryTurn store′ r ≡ turn n (getD ids j 0) (take (getD ends j 0 - from) (drop from bytes)) here) (own : n ≡ j) where
+      turned-here : paperEntryTurn store′ r ≡ turn j (getD ids j 0) (take (getD ends j 0 - from) (drop from bytes)) here
+      turned-here = rw own at turned
+
+      pub entries-ended : (x : Pushed) → r ≡ Ended x → (paperPushed x ≡ whole .answer) × (store′ ≡ whole .store)
+      entries-ended x e =
+          let w : record { answer = paperPushed x; store = store′ } ≡ whole = in-turn _ (rw e at turned-here) in
+          (ap (λ (y : Done). y .answer) w, ap (λ (y : Done). y .store) w)
 
       pub entries-again : (st′ : State) → r ≡ Written st′ → length store′ ≡ length store → (j′ : ℕ) → j′ ≡ j + 1 → EntriesLoop store₀ st₀ ids ends bytes store′ st′ (getD ends j 0) j′
       entries-again st′ e l j′ z =
-          let t : again (point st′ store′) ≡ turn j (getD ids j 0) (take (getD ends j 0 - from) (drop from bytes)) here = rw e at (turned j) in
+          let t : again (point st′ store′) ≡ turn j (getD ids j 0) (take (getD ends j 0 - from) (drop from bytes)) here = rw e at turned-here in
           let w : st′ .length ≤ length store = turn-room j (getD ids j 0) _ here (point st′ store′) _ (h .room) (entry-says j (getD ids j 0) _ here) t in
           rw z (record {
             most = omega arith;

@@ -11,7 +11,7 @@ use Rattle.refusal.proofs.Cases.{side}
 use Rattle.page.specs.Size.{idSize, payloadEnd, dataEnd}
 use Rattle.log.specs.Round.{Round, again}
 use Rattle.log.specs.Bounds.{badState}
-use Rattle.pushing.specs.Push.{refused, badBatch, someLarge, Point, point, used, bytesFor, wrote, Done, done, refuse, writing, turn, entriesFrom, pushOf}
+use Rattle.pushing.specs.Push.{refused, badBatch, someLarge, Point, point, bytesFor, wrote, Done, done, refuse, turn, entriesFrom, pushOf}
 use Rattle.log.specs.declared.state.State.{State}
 
 -- ---- the whole batch
@@ -37,20 +37,12 @@ module _ (store : List ℕ) (st : State) (ids ends bytes : List ℕ) where
 
 -- ---- an entry's turn
 
--- a test that tells whether the id is at or below the last, by what it says of each
-module _ (id last : ℕ) (test : Bool) where
-  pub order-broken : (last < id → test ≡ false) → test ≡ true → id ≤ last
-  order-broken h e = ⊎-elim (λ l. let f = h l in absurd (let z : _≡_ {A = ℕ} 0 1 = cc in omega arith)) (λ l. l) (side last id)
-
-  pub order-kept : (id ≤ last → test ≡ true) → test ≡ false → last < id
-  order-kept h e = ⊎-elim (λ l. l) (λ l. let f = h l in absurd (let z : _≡_ {A = ℕ} 0 1 = cc in omega arith)) (side last id)
-
 -- all that an entry's turn may come to
 pub data EntrySays (j id : ℕ) (d : List ℕ) (p : Point) : Round Done Point → Type 0 where
   out-of-order : id ≤ p .state .last → EntrySays j id d p (refuse 2 j p)
-  too-large : p .state .last < id → dataEnd ≤ length d → EntrySays j id d p (refuse 3 j (used id p))
-  full-store : p .state .last < id → length d < dataEnd → length (p .store) - p .state .length < bytesFor d → EntrySays j id d p (refuse 4 j (used id p))
-  pages-fit : p .state .last < id → length d < dataEnd → bytesFor d ≤ length (p .store) - p .state .length → EntrySays j id d p (again (wrote id d (used id p)))
+  too-large : p .state .last < id → dataEnd ≤ length d → EntrySays j id d p (refuse 3 j p)
+  full-store : p .state .last < id → length d < dataEnd → length (p .store) - p .state .length < bytesFor d → EntrySays j id d p (refuse 4 j p)
+  pages-fit : p .state .last < id → length d < dataEnd → bytesFor d ≤ length (p .store) - p .state .length → EntrySays j id d p (again (wrote id d p))
 
 module _ (j id : ℕ) (d : List ℕ) (p : Point) where
   pub turn-order : id ≤ p .state .last → turn j id d p ≡ refuse 2 j p
@@ -58,17 +50,17 @@ module _ (j id : ℕ) (d : List ℕ) (p : Point) where
   turn-order a = rw (le-leb id (p .state .last) a)
 
   module _ (a : p .state .last < id) where
-    pub turn-large : dataEnd ≤ length d → turn j id d p ≡ refuse 3 j (used id p)
-    unfolding turn writing
+    pub turn-large : dataEnd ≤ length d → turn j id d p ≡ refuse 3 j p
+    unfolding turn
     turn-large b = rw (lt-leb id (p .state .last) a, le-leb payloadEnd (idSize + length d) (omega arith))
 
     module _ (b : length d < dataEnd) where
-      pub turn-full : length (p .store) - p .state .length < bytesFor d → turn j id d p ≡ refuse 4 j (used id p)
-      unfolding turn writing
+      pub turn-full : length (p .store) - p .state .length < bytesFor d → turn j id d p ≡ refuse 4 j p
+      unfolding turn
       turn-full c = rw (lt-leb id (p .state .last) a, lt-leb payloadEnd (idSize + length d) (omega arith), lt-ltb (length (p .store) - p .state .length) (bytesFor d) c)
 
-      pub turn-write : bytesFor d ≤ length (p .store) - p .state .length → turn j id d p ≡ again (wrote id d (used id p))
-      unfolding turn writing
+      pub turn-write : bytesFor d ≤ length (p .store) - p .state .length → turn j id d p ≡ again (wrote id d p)
+      unfolding turn
       turn-write c = rw (lt-leb id (p .state .last) a, lt-leb payloadEnd (idSize + length d) (omega arith), le-ltb (length (p .store) - p .state .length) (bytesFor d) c)
 
   pub entry-says : EntrySays j id d p (turn j id d p)

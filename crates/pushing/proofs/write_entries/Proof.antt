@@ -4,7 +4,7 @@ use mathlib.Core.Path.{refl}
 use native.Mathlib.Omega.{arith}
 use lib.ListN.{length}
 use borrow.Author.Needs.{needs}
-use Rattle.pushing.proofs.Laws.Entries.{EntriesLoop, entries-begin, data-above, data-inside, entries-refused, entries-again, entries-end}
+use Rattle.pushing.proofs.Laws.Entries.{EntriesLoop, entries-begin, data-above, data-inside, entries-ended, entries-again, entries-end}
 use Rattle.pushing.proofs.write_entries.Statement.{statement}
 use Rattle.pushing.proofs.write_entries.Tie as tie
 
@@ -43,19 +43,16 @@ part-write-in-turn-end c = omega (arith, data-above (c .before .before .before .
 write-in-turn-requires : tie.Need-write-in-turn-requires Inv-loop μ-loop
 write-in-turn-requires c κs = omega arith
 
-enum-known-refusal : tie.Need-enum-known-refusal Inv-loop μ-loop
-enum-known-refusal c = search needs
-
-refused-requires : tie.Need-refused-requires Inv-loop μ-loop
-refused-requires c κs = tt
+enum-known-pushed : tie.Need-enum-known-pushed Inv-loop μ-loop
+enum-known-pushed c = search needs
 
 same-length : tie.Need-same-length Inv-loop μ-loop
 same-length c = omega arith
 
 returns : tie.Need-returns Inv-loop μ-loop
 returns c =
-    let at-turn = c .before .before .before .before .before .before in
-    entries-refused (at-turn .before .before .before .before .before .before .loop .inv) (omega arith) _ _ (at-turn .write-in-turn .ensures) _ _ (c .before .before .refusal .given .1) _ _ (c .refused .ensures) (omega arith)
+    let at-turn = c .before .before .before .before .before in
+    entries-ended (at-turn .before .before .before .before .before .before .loop .inv) (omega arith) _ _ _ (at-turn .write-in-turn .ensures) (omega arith) _ (c .before .pushed .given .1)
 
 enum-known-after : tie.Need-enum-known-after Inv-loop μ-loop
 enum-known-after c = search needs
@@ -69,7 +66,7 @@ loop-less c = omega arith
 loop-again : tie.Need-loop-again Inv-loop μ-loop
 loop-again c =
     let at-turn = c .before .before .before .before .before in
-    entries-again (at-turn .before .before .before .before .before .before .loop .inv) (omega arith) _ _ (at-turn .write-in-turn .ensures) _ (c .before .after .given .1) (omega arith) _ (omega arith)
+    entries-again (at-turn .before .before .before .before .before .before .loop .inv) (omega arith) _ _ _ (at-turn .write-in-turn .ensures) (omega arith) _ (c .before .after .given .1) (omega arith) _ (omega arith)
 
 same-length-2 : tie.Need-same-length-2 Inv-loop μ-loop
 same-length-2 c = omega arith
@@ -92,8 +89,7 @@ write-entries-spec =
     part-write-in-turn-start
     part-write-in-turn-end
     write-in-turn-requires
-    enum-known-refusal
-    refused-requires
+    enum-known-pushed
     same-length
     returns
     enum-known-after

@@ -1,45 +1,48 @@
 -- `write_in_turn` meets its contract: the tests in order, then the pages. Assumes nothing.
-use Prim.Native.Nat.{ℕ, _*_, _<_}
-use mathlib.Core.Path.{refl, sym, ap}
+use Prim.Native.Nat.{ℕ, _*_}
+use mathlib.Core.Path.{refl, sym, ap, _∙_}
 use native.Mathlib.Omega.{arith}
-use borrow.Author.Tests.{le-leb, lt-leb}
 use lib.ListN.{length-drop}
 use Rattle.page.specs.Size.{pageSize}
 use Rattle.page.proofs.Parting.{rest-of}
 use Rattle.pushing.specs.Push.{point}
-use Rattle.pushing.proofs.Laws.Tests.{order-broken, order-kept, turn-order}
-use Rattle.pushing.proofs.Laws.Entries.{refuse-too-large, refuse-no-room, write-pages}
+use Rattle.pushing.proofs.Laws.Tests.{turn-order, turn-large, turn-full}
+use Rattle.pushing.proofs.Laws.Entries.{ends-with, write-pages}
 use Rattle.pushing.proofs.write_in_turn.Statement.{statement}
 use Rattle.pushing.proofs.write_in_turn.Tie as tie
-
--- past the test of the order
-above : (c : tie.Else1) → c .before .before .before .before .args .state .last < c .before .before .before .before .args .id
-above c = order-kept _ _ _ (λ l. rw (le-leb _ _ l)) (c .if1 .left)
 
 sub-room : tie.Need-sub-room
 sub-room c = omega arith
 
+pages-for-data-requires : tie.Need-pages-for-data-requires
+pages-for-data-requires c κs = omega arith
+
+refused-requires : tie.Need-refused-requires
+refused-requires c κs = tt
+
 returns : tie.Need-returns
 returns c =
-    let a = c .before .before .before .before .args in
-    λ j. sym (turn-order j (a .id) (a .bytes .now) (point (a .state) (a .store .now)) (order-broken _ _ _ (λ l. rw (lt-leb _ _ l)) (c .if1 .taken)))
+    let a = c .before .before .before .before .before .args in
+    ends-with (a .state) (a .store .now) (a .written) 2 _ _ _ (c .refused .ensures) (omega arith) (omega arith) (omega arith) (omega arith)
+    ∙ sym (turn-order (a .written) (a .id) (a .bytes .now) (point (a .state) (a .store .now)) (omega arith))
 
-moved-requires : tie.Need-moved-requires
-moved-requires c κs = tt
+refused-requires-2 : tie.Need-refused-requires-2
+refused-requires-2 c κs = tt
 
 returns-2 : tie.Need-returns-2
 returns-2 c =
     let a = c .before .before .before .before .before .before .args in
-    λ j. refuse-too-large (a .id) (a .bytes .now) (a .state) (a .store .now) (above (c .before .before)) j _ _ (c .before .moved .ensures) (omega arith) (omega arith)
+    ends-with (a .state) (a .store .now) (a .written) 3 _ _ _ (c .refused2 .ensures) (omega arith) (omega arith) (omega arith) (omega arith)
+    ∙ sym (turn-large (a .written) (a .id) (a .bytes .now) (point (a .state) (a .store .now)) (omega arith) (omega arith))
 
-pages-for-data-requires : tie.Need-pages-for-data-requires
-pages-for-data-requires c κs = omega arith
+refused-requires-3 : tie.Need-refused-requires-3
+refused-requires-3 c κs = tt
 
 returns-3 : tie.Need-returns-3
 returns-3 c =
-    let a = c .before .before .before .before .before .before .before .before .args in
-    let k = ap (λ (n : ℕ). n * pageSize) (c .before .pages-for-data .ensures) in
-    λ j. refuse-no-room (a .id) (a .bytes .now) (a .state) (a .store .now) (above (c .before .before .before .before)) j (omega arith) _ k _ _ (c .before .before .before .moved .ensures) (omega arith) (omega arith)
+    let a = c .before .before .before .before .before .before .before .args in
+    ends-with (a .state) (a .store .now) (a .written) 4 _ _ _ (c .refused3 .ensures) (omega arith) (omega arith) (omega arith) (omega arith)
+    ∙ sym (turn-full (a .written) (a .id) (a .bytes .now) (point (a .state) (a .store .now)) (omega arith) (omega arith) (omega arith))
 
 sub-write-entry : tie.Need-sub-write-entry
 sub-write-entry c = omega arith
@@ -59,29 +62,30 @@ mul-moved c = omega arith
 add-moved : tie.Need-add-moved
 add-moved c = omega arith
 
-moved-requires-2 : tie.Need-moved-requires-2
-moved-requires-2 c κs = tt
+moved-requires : tie.Need-moved-requires
+moved-requires c κs = tt
 
 same-length : tie.Need-same-length
 same-length c = omega arith
 
 returns-4 : tie.Need-returns-4
 returns-4 c =
-    let a = c .before .before .before .before .before .before .before .before .before .before .before .before .before .args in
-    let k = ap (λ (n : ℕ). n * pageSize) (c .before .before .before .before .before .before .pages-for-data .ensures) in
+    let a = c .before .before .before .before .before .before .before .before .before .before .before .args in
+    let k = ap (λ (n : ℕ). n * pageSize) (c .before .before .before .before .before .before .before .before .pages-for-data .ensures) in
     let w = c .before .before .before .write-entry .ensures in
-    let above-last = above (c .before .before .before .before .before .before .before .before .before) in
-    λ j. write-pages (a .id) (a .bytes .now) (a .state) (a .store .now) above-last j (omega arith) _ k (omega arith) _ _ w refl _ _ _ (c .moved2 .ensures) (omega arith) (omega arith)
+    write-pages (a .state) (a .store .now) (a .written) (a .id) (a .bytes .now) (omega arith) (omega arith) _ k (omega arith) _ _ w refl _ _ _ (c .moved .ensures) (omega arith) (omega arith)
 
 pub write-in-turn-spec : {M : Type 1} → statement M
 write-in-turn-spec =
     tie.close
     (tie.spec
     sub-room
-    returns
-    moved-requires
-    returns-2
     pages-for-data-requires
+    refused-requires
+    returns
+    refused-requires-2
+    returns-2
+    refused-requires-3
     returns-3
     sub-write-entry
     part-write-entry-start
@@ -89,6 +93,6 @@ write-in-turn-spec =
     write-entry-requires
     mul-moved
     add-moved
-    moved-requires-2
+    moved-requires
     same-length
     returns-4)
