@@ -13,7 +13,7 @@ use Rattle.demands.specs.Sound.{Start, Sound, SoundStore, Last, LastStor
 use Rattle.demands.specs.Push.{Ready}
 use Rattle.demands.proofs.Push.Appending.{start-kept}
 
-pub last-unique : (log : List ℕ) (p q : ℕ) → Last log p → Last log q → p ≡ q
+last-unique : (log : List ℕ) (p q : ℕ) → Last log p → Last log q → p ≡ q
 last-unique log p q l m = omega (arith, l .none q (m .start), m .none p (l .start))
 
 -- its id, or 0, is one
@@ -25,7 +25,7 @@ stored-unique log m n (last-entry p l e) (last-entry q k f) = sym e ∙ ap (idAt
 
 module _ (log : List ℕ) (s : Sound log) where
   -- the last entry has the greatest id
-  pub last-greatest : (p q : ℕ) → Last log p → Start log q → idAt log q ≤ idAt log p
+  last-greatest : (p q : ℕ) → Last log p → Start log q → idAt log q ≤ idAt log p
   last-greatest p q l b = ⊎-elim
       (λ e. omega (arith, ap (idAt log) e))
       (⊎-elim (λ a. omega (arith, s .rising q p b (l .start) a)) (λ a. absurd (omega (arith, l .none q b))))

@@ -7,7 +7,7 @@ use Rattle.page.specs.Size.{idSize}
 use Rattle.page.specs.Entry.{lengthAt, idAt}
 use Rattle.page.specs.Data.{dataAt}
 use Rattle.page.specs.Write.{entryPages}
-use Rattle.pushing.specs.Push.{entryData, bytesFor, Done, pushOf}
+use Rattle.pushing.specs.Push.{entryData, Point, bytesFor, wrote, Done, pushOf}
 use Rattle.log.specs.declared.state.State.{State}
 use Rattle.demands.specs.Sound.{Start, SoundStore}
 
@@ -65,6 +65,11 @@ pagesOf q j = take (bytesFor (dataIn q j)) (drop (beginsAt q j) (outcome q .stor
 pub record AlikeFrom (q r : Push) (j k : ℕ) : Type 0 where
   pub same-id : (i : ℕ) → idIn q (j + i) ≡ idIn r (k + i)
   pub same-data : (i : ℕ) → dataIn q (j + i) ≡ dataIn r (k + i)
+
+-- 4.4 "What was written before it stays; the entry that is refused changes nothing": where a push stands once its first n entries are written
+unfoldable pub afterEntries : List ℕ → List ℕ → List ℕ → Point → ℕ → Point
+afterEntries ids ends bytes p zero = p
+afterEntries ids ends bytes p (suc n) = wrote (getD ids n 0) (entryData ends bytes n) (afterEntries ids ends bytes p n)
 
 -- 4.3 "last written becomes its id": the id of the last of the first n entries; what it was before if there is none
 abbrev pub lastOf : State → List ℕ → ℕ → ℕ

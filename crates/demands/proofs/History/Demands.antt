@@ -6,12 +6,11 @@ use mathlib.Core.List.{List, [], _∷_, _++_, List·Memᴰ, List·Memᴰ·not-ni
 use native.Mathlib.Omega.{arith}
 use lib.ListN.{length, getD}
 use Rattle.page.specs.Size.{pageSize}
-use Rattle.page.specs.Entry.{idAt, dataLengthAt}
+use Rattle.page.specs.Entry.{dataLengthAt}
 use Rattle.log.specs.Bounds.{Fits}
 use Rattle.pushing.specs.Push.{entryData, pushOf}
 use Rattle.log.specs.Recovery.{excessOf, cutLog}
 use Rattle.log.specs.Lookup.{findOf}
-use Rattle.log.specs.declared.state.State.{State}
 use Rattle.log.proofs.Laws.Bounds.{length-log}
 use Rattle.demands.specs.Sound.{Sound, LastStored, nothing-stored, last-entry}
 use Rattle.demands.specs.Push.{Holds}

@@ -15,7 +15,7 @@ use Rattle.log.specs.Round.{again, follow}
 use Rattle.log.specs.State.{movedTo}
 use Rattle.log.specs.declared.state.State.{State}
 use Rattle.log.proofs.Laws.Bounds.{not-bad}
-use Rattle.pushing.specs.Push.{none, refused, Pushing, pushing, entryData, some, badEnd, badBatch, largeData, someLarge, Point, point, bytesFor, wrote, Done, done, turn, entriesFrom, pushOf}
+use Rattle.pushing.specs.Push.{none, refused, pushing, entryData, some, badEnd, badBatch, largeData, someLarge, Point, point, bytesFor, wrote, Done, done, turn, entriesFrom, pushOf}
 use Rattle.pushing.proofs.Laws.Tests.{turn-write, entries-in-turn}
 use Rattle.demands.specs.Push.{Push, idIn, outcome}
 use Rattle.demands.proofs.Push.Ways.{by-batch, by-turn}

@@ -15,7 +15,7 @@ use Rattle.pushing.specs.Push.{Why, none, refused, entryData, Point, point, log
 use Rattle.log.specs.declared.state.State.{State}
 use Rattle.demands.proofs.Push.Ways.{by-batch, by-turn}
 use Rattle.demands.specs.Sound.{Start, SoundStore, LastStored, last-entry}
-use Rattle.demands.specs.Push.{batchPages, logAfter, Grown, lastOf, Holds, Ready, RightPush}
+use Rattle.demands.specs.Push.{batchPages, logAfter, Grown, afterEntries, lastOf, Holds, Ready, RightPush}
 use Rattle.demands.specs.History.{Words}
 use Rattle.demands.proofs.Last.{greatest-last, stored-ready}
 use Rattle.demands.proofs.Push.Appending.{holds-kept, sound-append, most-append, holds-append}
@@ -167,25 +167,36 @@ module _ (store : List ℕ) (st : State) (ids ends bytes : List ℕ) where
   pub push-grows : Grown store st ids ends bytes (pushOf store st ids ends bytes)
   push-grows = record { log = grown .log; after = grown .after; size = grown .size; next = grown .next }
 
--- ---- THEOREM: on any input last written after a push is the id of the last entry counted, and stays where none is
+-- ---- THEOREM: on any input a push leaves what the entries that it counts leave, and nothing of the one that is refused
 
 -- shut, so that antt sees which push it is asked of
-LastWrittenIs : State → List ℕ → Done → Type 0
-LastWrittenIs st ids r = r .answer .state .last ≡ lastOf st ids (r .answer .written)
+Leaves : List ℕ → List ℕ → List ℕ → Point → Done → Type 0
+Leaves ids ends bytes p₀ r = point (r .answer .state) (r .store) ≡ afterEntries ids ends bytes p₀ (r .answer .written)
 
-module _ (st : State) (ids ends bytes : List ℕ) where
-  last-kept : (n j : ℕ) (p : Point) → p .state .last ≡ lastOf st ids j → LastWrittenIs st ids (entriesFrom ids ends bytes n j p)
-  unfolding LastWrittenIs entriesFrom
-  last-kept zero j p e = e
-  last-kept (suc n) j p e = by-turn ids ends bytes n j p (LastWrittenIs st ids)
+module _ (ids ends bytes : List ℕ) (p₀ : Point) where
+  leaves-from : (n j : ℕ) (p : Point) → p ≡ afterEntries ids ends bytes p₀ j → Leaves ids ends bytes p₀ (entriesFrom ids ends bytes n j p)
+  unfolding Leaves entriesFrom afterEntries
+  leaves-from zero j p e = e
+  leaves-from (suc n) j p e = by-turn ids ends bytes n j p (Leaves ids ends bytes p₀)
       (λ a. e)
       (λ a b. e)
       (λ a b c. e)
-      (λ a b c. last-kept n (suc j) _ (wrote-last (getD ids j 0) (entryData ends bytes j) p))
+      (λ a b c. leaves-from n (suc j) _ (ap (wrote (getD ids j 0) (entryData ends bytes j)) e))
 
-  pub push-last : (store : List ℕ) → pushOf store st ids ends bytes .answer .state .last ≡ lastOf st ids (pushOf store st ids ends bytes .answer .written)
-  unfolding LastWrittenIs
-  push-last store = by-batch store st ids ends bytes (LastWrittenIs st ids) refl refl refl (λ l. last-kept (length ids) 0 (point st store) refl)
+module _ (store : List ℕ) (st : State) (ids ends bytes : List ℕ) where
+  pub push-leaves : point (pushOf store st ids ends bytes .answer .state) (pushOf store st ids ends bytes .store)
+      ≡ afterEntries ids ends bytes (point st store) (pushOf store st ids ends bytes .answer .written)
+  unfolding Leaves afterEntries
+  push-leaves = by-batch store st ids ends bytes (Leaves ids ends bytes (point st store)) refl refl refl (λ l. leaves-from ids ends bytes (point st store) (length ids) 0 (point st store) refl)
+
+  last-after : (n : ℕ) → afterEntries ids ends bytes (point st store) n .state .last ≡ lastOf st ids n
+  unfolding afterEntries
+  last-after zero = refl
+  last-after (suc n) = wrote-last (getD ids n 0) (entryData ends bytes n) (afterEntries ids ends bytes (point st store) n)
+
+  -- so last written is the id of the last entry counted, and stays where none is
+  pub push-last : pushOf store st ids ends bytes .answer .state .last ≡ lastOf st ids (pushOf store st ids ends bytes .answer .written)
+  push-last = ap (λ (p : Point). p .state .last) push-leaves ∙ last-after (pushOf store st ids ends bytes .answer .written)
 
 -- ---- THEOREM: onto a sound log, with last written at or above the last stored id, it stays so and holds every entry counted
 
@@ -238,14 +249,14 @@ module _ (ids ends bytes : List ℕ) (words : Words ids) (store : List ℕ) (st 
   stored-still : left .answer .written ≡ 0 → LastStored (logAfter left) (left .answer .state .last)
   unfolding batchPages
   stored-still e =
-      let n : left .answer .state .last ≡ st .last = rw e at (push-last st ids ends bytes store) in
+      let n : left .answer .state .last ≡ st .last = rw e at (push-last store st ids ends bytes) in
       let l : logAfter left ≡ take (st .length) store ++ [] = rw e at (push-grows store st ids ends bytes .log) in
       rw (l, append-nil (take (st .length) store), n) last
 
   -- the last entry counted has the greatest id
   stored-new : (m : ℕ) → left .answer .written ≡ suc m → LastStored (logAfter left) (left .answer .state .last)
   stored-new m e =
-      let n : left .answer .state .last ≡ getD ids m 0 = rw e at (push-last st ids ends bytes store) in
+      let n : left .answer .state .last ≡ getD ids m 0 = rw e at (push-last store st ids ends bytes) in
       let h = right .held m (omega arith) in
       last-entry (h .page)
       (greatest-last (logAfter left) (right .ready .good .sound) (h .page) (h .start) (λ q b. omega (arith, right .ready .under q b, n, h .has)))

@@ -25,7 +25,7 @@ use Rattle.demands.specs.Recovery.{RightRecovery, empty, used-up, goes-o
 
 -- ---- the walk back on a sound log ends at the last start
 
-pub record WalkEnded (log : List ℕ) (excess from : ℕ) : Type 0 where
+record WalkEnded (log : List ℕ) (excess from : ℕ) : Type 0 where
   pub page : ℕ
   pub last : Last log page
   pub is : walkBack log excess from ≡ atLast (length log) excess page (entryAt log page)
@@ -49,7 +49,7 @@ module _ (log : List ℕ) (s : Sound log) (excess : ℕ) where
           (⊎-elim (λ a. omega arith) (λ a. absurd (omega (arith, clear q h)))) (order q (suc p))) in
           record { page = e .page; last = e .last; is = back-later log excess (suc p) p refl m ∙ e .is }
 
-  pub walk-ends : 0 < pageCount log → WalkEnded log excess (pageCount log - 1)
+  walk-ends : 0 < pageCount log → WalkEnded log excess (pageCount log - 1)
   walk-ends l = walked (pageCount log - 1) (omega arith) (λ q h. omega (arith, h .inside))
 
   right-last : (p : ℕ) → Last log p → RightRecovery log excess (atLast (length log) excess p (entryAt log p))
