@@ -108,9 +108,8 @@ record GrownFrom (log₀ ids ends bytes : List ℕ) (p : Point) (r : Done) : Typ
 
 module _ (log₀ ids ends bytes : List ℕ) where
   -- nothing more is written
-  grown-none : (j : ℕ) (p q : Point) (why : Why) → logAt p ≡ log₀ ++ batchPages ids ends bytes j → q .store ≡ p .store → q .state .length ≡ p .state .length → q .state .next ≡ p .state .next
-      → GrownFrom log₀ ids ends bytes p (done why j q)
-  grown-none j p q why l e a n = record { log = rw (e, a) l; after = rw e; reach = omega arith; size = ap length e; next = n }
+  grown-none : (j : ℕ) (p : Point) (why : Why) → logAt p ≡ log₀ ++ batchPages ids ends bytes j → GrownFrom log₀ ids ends bytes p (done why j p)
+  grown-none j p why l = record { log = l; after = refl; reach = omega arith; size = refl; next = refl }
 
   module _ (j : ℕ) (p : Point) (inside : p .state .length ≤ length (p .store)) (fits : bytesFor (entryData ends bytes j) ≤ length (p .store) - p .state .length) where
     abbrev id : ℕ
@@ -137,11 +136,11 @@ module _ (log₀ ids ends bytes : List ℕ) where
 
   grown-from : (n j : ℕ) (p : Point) → p .state .length ≤ length (p .store) → logAt p ≡ log₀ ++ batchPages ids ends bytes j → GrownFrom log₀ ids ends bytes p (entriesFrom ids ends bytes n j p)
   unfolding entriesFrom
-  grown-from zero j p o l = grown-none j p p none l refl refl refl
+  grown-from zero j p o l = grown-none j p none l
   grown-from (suc n) j p o l = by-turn ids ends bytes n j p (GrownFrom log₀ ids ends bytes p)
-      (λ a. grown-none j p p (refused 2 0) l refl refl refl)
-      (λ a b. grown-none j p p (refused 3 0) l refl refl refl)
-      (λ a b c. grown-none j p p (refused 4 0) l refl refl refl)
+      (λ a. grown-none j p (refused 2 0) l)
+      (λ a b. grown-none j p (refused 3 0) l)
+      (λ a b c. grown-none j p (refused 4 0) l)
       (λ a b c. grown-more j p o c _ (grown-from n (suc j) _ (wrote-inside (getD ids j 0) (entryData ends bytes j) p o c) (log-then j p o c l)))
 
 -- ---- THEOREM: on any input a push grows the log by the pages of exactly the entries it counts, and changes no other byte
@@ -162,7 +161,7 @@ module _ (store : List ℕ) (st : State) (ids ends bytes : List ℕ) where
       (λ l. grown-from log-before ids ends bytes (length ids) 0 (point st store) l none-yet)
     where
       refused-all : (number : ℕ) → GrownFrom log-before ids ends bytes (point st store) (done (refused number 0) 0 (point st store))
-      refused-all number = grown-none log-before ids ends bytes 0 (point st store) (point st store) (refused number 0) none-yet refl refl refl
+      refused-all number = grown-none log-before ids ends bytes 0 (point st store) (refused number 0) none-yet
 
   pub push-grows : Grown store st ids ends bytes (pushOf store st ids ends bytes)
   push-grows = record { log = grown .log; after = grown .after; size = grown .size; next = grown .next }
