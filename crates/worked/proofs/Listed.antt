@@ -1,4 +1,4 @@
--- Rules 13, "Worked cases": all but 13.6, which is too long for a list, in one list under one statement. Assumes nothing.
+-- Rules 13, "Worked cases": all but 13.6, which is too long for a list (Witnessed has it), in one list under one statement. Assumes nothing.
 use mathlib.Core.Path.{_≡_, refl}
 use mathlib.Core.Bool.{Bool, true, false}
 use mathlib.Core.List.{List, [], _∷_, _++_}

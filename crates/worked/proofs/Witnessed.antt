@@ -7,6 +7,7 @@
 --   settled-by-stored                         3 is settled by the last entry stored too: three-settled
 --   refused-keeps-id, tried-again             4 is refused for room, and taken with less data: four-refused, four-tried-again
 --   last-is-stored                            it is the last id stored then: four-is-last
+--   one-too-large, one-written                7 is refused with 16,777,208 bytes and taken with fewer, 13.6: seven-refused, seven-written, so-many
 --   push-right, push-whole                    5 is pushed: five-is-held, all-written
 --   pages-alone, earlier-hidden               5 after 9, 9, 9 over 255s, by itself after that log, after 6: five-alike, nines-hidden
 --   filling-written                           of its second page, over 255s: five-filled
@@ -14,14 +15,14 @@
 --   recover-right, recover-alike              a length with an excess; a log that differs before its last entry: excess-recovers, recovers-alike
 --   complete-right, note-adds                 over words that are not zero: notes-right, three-added
 --   data-one-part                             the data of an entry of one page: five-bytes
-use Prim.Native.Nat.{ℕ, zero, suc, _+_, _≤_, _<_}
+use Prim.Native.Nat.{ℕ, zero, suc, _+_, _-_, _≤_, _<_}
 use mathlib.Core.Path.{_≡_, refl}
 use mathlib.Core.Bool.{true}
 use mathlib.Core.Logic.{_⊎_, _↔_, inl, inr, ⊎-elim}
 use mathlib.Core.List.{List, [], _∷_, _++_, List·Memᴰ·head}
 use native.Mathlib.Omega.{arith}
 use lib.Dec.{lit<, lit≤}
-use lib.ListN.{length, take, drop, replicate}
+use lib.ListN.{length, take, drop, replicate, length-replicate}
 use Rattle.page.specs.Size.{pagesFor, pageCount, pageAt}
 use Rattle.page.specs.Bytes.{numberAt, bytesOf}
 use Rattle.page.specs.Mark.{markAt}
@@ -40,10 +41,11 @@ use Rattle.log.specs.Guess.{leastFrom, leastShift, offsetOf}
 use Rattle.log.specs.Lookup.{found, roundFrom, window, allPages, compared, sayingAt, turned, walk, search, searchOf, findOf, handFound, lookupOf}
 use Rattle.log.specs.Check.{laterMarks, checkStart, checkPage, checkEnd, checkFrom, checkOf}
 use Rattle.log.specs.Recovery.{cutLog, atLast, walkBack, recoverLog, recoverOf}
-use Rattle.pushing.specs.Push.{none, pushing, entryData, some, badEnd, badBatch, largeData, someLarge, wrote, turn, entriesFrom, pushOf}
+use Rattle.pushing.specs.Push.{none, refused, pushing, point, bytesFor, Done, done, entryData, some, badEnd, badBatch, largeData, someLarge, wrote, turn, entriesFrom, pushOf}
 use Rattle.scanning.specs.Range.{holdsOf}
 use Rattle.scanning.specs.Scan.{scanOf}
 use Rattle.scanning.specs.Step.{stepStart, stepPage, forward, forwardFrom, stepOf}
+use Rattle.log.specs.declared.state.State.{State}
 use Rattle.scanning.specs.declared.Range.{Range}
 use Rattle.scanning.specs.declared.End.the-variants.{Open}
 use Rattle.demands.specs.History.{World, world, logOf, Words, Call, push, take-id, find, lookup, answer, step, run, said, Begun, Settled, SettledByStored, LooksUp, Gives, Answers, ReadsBack}
@@ -51,7 +53,7 @@ use Rattle.page.proofs.Runs.{data-one-part}
 use Rattle.demands.proofs.Check.Passing.{checked-sound}
 use Rattle.demands.proofs.Push.Batch.{push-right, push-whole}
 use Rattle.demands.proofs.Last.{stored-ready}
-use Rattle.demands.proofs.Push.Again.{tried-again}
+use Rattle.demands.proofs.Push.Again.{one-too-large, one-written, tried-again}
 use Rattle.demands.proofs.Push.Alone.{pages-alone, earlier-hidden, filling-written}
 use Rattle.demands.proofs.Recovery.Resuming.{recover-right, recover-alike}
 use Rattle.demands.proofs.History.Lasting.{standingData}
@@ -241,6 +243,24 @@ four-tried-again = tried-again refused-four 4 (inr refl) refl store (8 ∷ []) g
 pub four-is-last : LastStored (logOf (run begins (take-id ∷ too-much ∷ smaller ∷ []))) 4
 unfolding pagesFor bytesOf filled firstPage laterPage laterPages entryPages tooLong badState takeOf entryData some badEnd badBatch largeData someLarge wrote turn entriesFrom pushOf answer step run
 four-is-last = last-is-stored begins begins-there (take-id ∷ too-much ∷ smaller ∷ [])
+
+-- ---- 13.6, of any 16,777,208 bytes in any store with last written 6
+
+module _ (store₆ : List ℕ) (st : State) (g : Good store₆ (st .length)) (six : st .last ≡ 6) (d : List ℕ) (long : length d ≡ 16777208) where
+  abbrev seven : Done
+  seven = pushOf store₆ st (7 ∷ []) (length d ∷ []) d
+
+  -- refusal 3, nothing written, and the state and the store stay
+  pub seven-refused : seven ≡ done (refused 3 0) 0 (point st store₆)
+  seven-refused = one-too-large store₆ st 7 d g (omega arith) long
+
+  pub seven-written : (less : List ℕ) → length less < 16777208 → bytesFor less ≤ length store₆ - st .length
+      → pushOf (seven .store) (seven .answer .state) (7 ∷ []) (length less ∷ []) less .answer ≡ pushing none 1 (stateOf (st .length + bytesFor less) 7 (st .next))
+  seven-written less b c = rw seven-refused (one-written store₆ st 7 less g (omega arith) b c)
+
+-- there are so many
+pub so-many : length {A = ℕ} (replicate 16777208 0) ≡ 16777208
+so-many = length-replicate {0} {A = ℕ} 16777208 0
 
 -- ---- the pages of 5 are the same wherever it is pushed
 

@@ -11,12 +11,12 @@ use lib.ListN.{length, getD}
 use lib.Seq.{take-length}
 use Rattle.page.specs.Size.{dataEnd}
 use Rattle.log.specs.Bounds.{Good}
-use Rattle.log.specs.Round.{again, follow}
+use Rattle.log.specs.Round.{Round, follow}
 use Rattle.log.specs.State.{movedTo}
 use Rattle.log.specs.declared.state.State.{State}
 use Rattle.log.proofs.Laws.Bounds.{not-bad}
 use Rattle.pushing.specs.Push.{none, refused, pushing, entryData, some, badEnd, badBatch, largeData, someLarge, Point, point, bytesFor, wrote, Done, done, turn, entriesFrom, pushOf}
-use Rattle.pushing.proofs.Laws.Tests.{turn-write, entries-in-turn}
+use Rattle.pushing.proofs.Laws.Tests.{turn-large, turn-write, entries-in-turn}
 use Rattle.demands.specs.Push.{Push, idIn, outcome}
 use Rattle.demands.proofs.Push.Ways.{by-batch, by-turn}
 
@@ -74,18 +74,30 @@ module _ (store : List ℕ) (st : State) (id : ℕ) (d : List ℕ) where
   unfolding badBatch some badEnd
   one-good = rw (le-ltb (length d) 0 (omega arith), le-ltb (length d) (length d) (omega arith))
 
-  one-small : length d < dataEnd → someLarge (length d ∷ []) d ≡ false
+  one-small : length d ≤ dataEnd → someLarge (length d ∷ []) d ≡ false
   unfolding someLarge some largeData
   one-small b = rw (one-data, le-ltb dataEnd (length d) (omega arith))
 
-  one-written : Good store (st .length) → st .last < id → length d < dataEnd → bytesFor d ≤ length store - st .length
-      → pushOf store st (id ∷ []) (length d ∷ []) d .answer ≡ pushing none 1 (movedTo st (st .length + bytesFor d) id)
-  unfolding entriesFrom wrote
-  one-written g a b c =
-      let p = point st store in
-      let t : turn 0 id (entryData (length d ∷ []) d 0) p ≡ again (wrote id d p) = ap (λ (x : List ℕ). turn 0 id x p) one-data ∙ turn-write 0 id d p a b c in
-      let e : entriesFrom (id ∷ []) (length d ∷ []) d 1 0 p ≡ done none 1 (wrote id d p) = ap (follow (entriesFrom (id ∷ []) (length d ∷ []) d 0 1)) t in
-      ap (λ (r : Done). r .answer) (sym (entries-in-turn store st (id ∷ []) (length d ∷ []) d (not-bad store (st .length) g) one-good (one-small b)) ∙ e)
+  module _ (g : Good store (st .length)) (a : st .last < id) where
+    abbrev alone : Done
+    alone = pushOf store st (id ∷ []) (length d ∷ []) d
+
+    abbrev here : Point
+    here = point st store
+
+    -- what its turn comes to is what the push comes to
+    one-turn : length d ≤ dataEnd → (r : Round Done Point) → turn 0 id d here ≡ r → alone ≡ follow (entriesFrom (id ∷ []) (length d ∷ []) d 0 1) r
+    unfolding entriesFrom
+    one-turn b r e =
+        sym (entries-in-turn store st (id ∷ []) (length d ∷ []) d (not-bad store (st .length) g) one-good (one-small b))
+        ∙ ap (follow (entriesFrom (id ∷ []) (length d ∷ []) d 0 1)) (ap (λ (x : List ℕ). turn 0 id x here) one-data ∙ e)
+
+    pub one-too-large : length d ≡ dataEnd → alone ≡ done (refused 3 0) 0 here
+    one-too-large b = one-turn (omega arith) _ (turn-large 0 id d here a (omega arith))
+
+    pub one-written : length d < dataEnd → bytesFor d ≤ length store - st .length → alone .answer ≡ pushing none 1 (movedTo st (st .length + bytesFor d) id)
+    unfolding entriesFrom wrote
+    one-written b c = ap (λ (r : Done). r .answer) (one-turn (omega arith) _ (turn-write 0 id d here a b c))
 
 -- THEOREM: on any input what 3 or 4 refused is written by a push of it alone, with the state that the refused one left, given data that is not too large and a store, the same or another, with room
 pub tried-again : (q : Push) (number : ℕ) → (number ≡ 3) ⊎ (number ≡ 4) → outcome q .answer .reason ≡ refused number 0
