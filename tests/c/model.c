@@ -288,6 +288,23 @@ static void write_entry(uint8_t *at, uint64_t id, const uint8_t *data, uint64_t 
     }
 }
 
+/* One entry in its turn: written, or refused with nothing changed. */
+static uint64_t push_entry(uint8_t *store, size_t store_len, awirbesh_state *state, uint64_t id, const uint8_t *data,
+                           uint64_t length)
+{
+    uint64_t bytes = pages_of(8 + length) * PAGE;
+    if (id <= state->last)
+        return 2;
+    if (8 + length >= 1 << 24)
+        return 3;
+    if (bytes > store_len - state->length)
+        return 4;
+    write_entry(store + state->length, id, data, length);
+    state->length += bytes;
+    state->last = id;
+    return 0;
+}
+
 awirbesh_pushed model_push(uint8_t *store, size_t store_len, awirbesh_state state, const uint64_t *ids,
                            size_t ids_len, const uint64_t *ends, size_t ends_len, const uint8_t *data,
                            size_t data_len)
@@ -309,24 +326,9 @@ awirbesh_pushed model_push(uint8_t *store, size_t store_len, awirbesh_state stat
         return r;
 
     before = 0;
-    for (size_t i = 0; i < ids_len; before = ends[i++]) {
-        uint64_t length = ends[i] - before, bytes = pages_of(8 + length) * PAGE;
-        if (ids[i] <= r.state.last) {
-            r.number = 2;
-            return r;
-        }
-        r.state.last = ids[i];
-        if (8 + length >= 1 << 24) {
-            r.number = 3;
-            return r;
-        }
-        if (bytes > store_len - r.state.length) {
-            r.number = 4;
-            return r;
-        }
-        write_entry(store + r.state.length, ids[i], length ? data + before : data, length);
-        r.state.length += bytes;
-        r.written++;
+    for (size_t i = 0; r.number == 0 && i < ids_len; before = ends[i++]) {
+        r.number = push_entry(store, store_len, &r.state, ids[i], data + before, ends[i] - before);
+        r.written += r.number == 0;
     }
     return r;
 }
