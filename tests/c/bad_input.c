@@ -130,6 +130,24 @@ static void hold(const lent *l, const char *what)
             stop("a byte outside the lent ones was changed");
 }
 
+/* Lends what follows the first bytes of a buffer, wherever that now lies. */
+static void drop_front(lent *l, size_t count)
+{
+    lend(l, l->len - count, one_in(2));
+    memcpy(l->bytes, l->copy + count, l->len);
+    remember(l);
+}
+
+/* Lends a buffer with more bytes after those that it has. */
+static void lengthen(lent *l, size_t more)
+{
+    size_t before = l->len;
+    lend(l, before + more, one_in(2));
+    fill(l, 1);
+    memcpy(l->bytes, l->copy, before);
+    remember(l);
+}
+
 static lent store, out, ids, ends, data, words;
 static uint8_t *large;
 
@@ -286,9 +304,9 @@ static uint64_t some_id(awirbesh_state state)
 
 /* ---- the calls, each held to the model ---- */
 
-enum { TAKE, CHECK, RECOVER, FIND, LOOKUP, ABSENT, SCAN, STEP, ENDED, PUSH, NOTE, KINDS };
-static const char *const names[KINDS] = {"take", "check", "recover", "find", "lookup", "  absent",
-                                         "scan", "step",  "  end",   "push", "note"};
+enum { TAKE, CHECK, RECOVER, FIND, LOOKUP, ABSENT, SCAN, STEP, ENDED, PUSH, AGAIN, NOTE, KINDS };
+static const char *const names[KINDS] = {"take", "check", "recover", "find", "lookup",  "  absent",
+                                         "scan", "step",  "  end",   "push", "  again", "note"};
 /* The refusals that the rules let each give, as bits. */
 static const uint32_t possible[KINDS] = {
     1u | 1u << 9,
@@ -301,6 +319,7 @@ static const uint32_t possible[KINDS] = {
     1u | 1u << 1 | 1u << 5 | 1u << 6 | 1u << 7 | 1u << 10,
     1u,
     1u | 1u << 1 | 1u << 2 | 1u << 3 | 1u << 4 | 1u << 13 | 1u << 16,
+    1u | 1u << 2 | 1u << 4,
     1u | 1u << 11 | 1u << 12,
 };
 static uint64_t counts[KINDS][17], calls;
@@ -409,34 +428,91 @@ static void make_batch(awirbesh_state state)
     remember(&data);
 }
 
-static void try_push(awirbesh_state state)
+static awirbesh_pushed push(int kind, awirbesh_state state, const uint64_t *batch, size_t n, const uint64_t *limits,
+                            size_t m, const uint8_t *bytes, size_t len)
 {
-    make_batch(state);
-    awirbesh_pushed got = awirbesh_push(store.bytes, store.len, state, (const uint64_t *)ids.bytes, ids.len / 8,
-                                        (const uint64_t *)ends.bytes, ends.len / 8, data.bytes, data.len);
-    awirbesh_pushed expected = model_push(store.copy, store.len, state, (const uint64_t *)ids.copy, ids.len / 8,
-                                          (const uint64_t *)ends.copy, ends.len / 8, data.copy, data.len);
+    awirbesh_pushed got = awirbesh_push(store.bytes, store.len, state, batch, n, limits, m, bytes, len);
+    awirbesh_pushed expected = model_push(store.copy, store.len, state, batch, n, limits, m, bytes, len);
     MUST_EQUAL("push", got, expected);
+    hold(&store, "push's bytes");
+    count(kind, got.number);
+    return got;
+}
+
+static awirbesh_pushed push_batch(int kind, awirbesh_state state)
+{
+    awirbesh_pushed got = push(kind, state, (const uint64_t *)ids.bytes, ids.len / 8, (const uint64_t *)ends.bytes,
+                               ends.len / 8, data.bytes, data.len);
     hold(&ids, "push's ids");
     hold(&ends, "push's ends");
     hold(&data, "push's data");
-    count(PUSH, got.number);
+    return got;
 }
 
-/* Data about the limits of 3 and 16: nothing of it is ever written. */
+/* Each end falls by as much. */
+static void lower_ends(uint64_t by)
+{
+    for (size_t at = 0; at < ends.len; at += 8) {
+        uint64_t end;
+        memcpy(&end, ends.bytes + at, 8);
+        end -= by;
+        memcpy(ends.bytes + at, &end, 8);
+    }
+    remember(&ends);
+}
+
+/* The batch from the refused entry on, with its data. */
+static void drop_written(uint64_t written)
+{
+    uint64_t end = 0;
+    if (written)
+        memcpy(&end, ends.bytes + 8 * (written - 1), 8);
+    drop_front(&ids, 8 * written);
+    drop_front(&ends, 8 * written);
+    drop_front(&data, end);
+    lower_ends(end);
+}
+
+/* The first entry with less data; those after it keep their lengths. */
+static void shorten_first(void)
+{
+    uint64_t length;
+    memcpy(&length, ends.bytes, 8);
+    lower_ends(one_in(2) ? length : below(length + 1));
+}
+
+/* What was refused for room comes again with the same ids: with less data, with more room, or just so. */
+static void try_push(awirbesh_state state)
+{
+    make_batch(state);
+    awirbesh_pushed p = push_batch(PUSH, state);
+    for (int i = 0; i < 3 && p.number == 4; i++) {
+        drop_written(p.written);
+        switch (below(3)) {
+        case 0:
+            shorten_first();
+            break;
+        case 1:
+            lengthen(&store, below(store.size - store.len + 1));
+            break;
+        }
+        p = push_batch(AGAIN, p.state);
+    }
+}
+
+/* Data about the limits of 3 and 16, of which nothing is ever written; what 3 refused comes again with less. */
 static void try_large_push(awirbesh_state state)
 {
-    uint64_t batch[2], limits[2];
-    batch[0] = state.last + 1 + below(2);
+    uint64_t batch[2], limits[2], less = some_payload() - 8;
+    batch[0] = state.last + below(3);
     batch[1] = batch[0] + 1;
     limits[0] = one_in(2) ? 0 : LARGE_DATA - 1 + below(2);
     limits[1] = LARGE_DATA - below(2);
     if (limits[1] < limits[0])
         limits[1] = limits[0];
-    awirbesh_pushed got = awirbesh_push(store.bytes, store.len, state, batch, 2, limits, 2, large, LARGE_DATA);
-    awirbesh_pushed expected = model_push(store.copy, store.len, state, batch, 2, limits, 2, large, LARGE_DATA);
-    MUST_EQUAL("large push", got, expected);
-    count(PUSH, got.number);
+    awirbesh_pushed p = push(PUSH, state, batch, 2, limits, 2, large, LARGE_DATA);
+    if (p.number == 3)
+        push(AGAIN, p.state, batch + p.written, 1, &less, 1, large, LARGE_DATA);
 }
 
 /* The ids from the first start on that were noted, and what the rules make of them: a second model, without words. */
@@ -534,10 +610,8 @@ static void round_of_calls(void)
         try_scan(state);
     hold(&store, "a call that only reads changed the store");
     try_push(state);
-    hold(&store, "push's bytes");
     if (one_in(50))
         try_large_push(state);
-    hold(&store, "large push's bytes");
     try_made_up_notes();
 }
 
