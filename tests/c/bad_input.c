@@ -500,18 +500,18 @@ static void try_push(awirbesh_state state)
     }
 }
 
-/* Data about the limits of 3 and 16, of which nothing is ever written; what 3 refused comes again with less. */
+/* Data about the limits of 3 and 16, for which there is never room; what 3 or 4 refused comes again with less. */
 static void try_large_push(awirbesh_state state)
 {
     uint64_t batch[2], limits[2], less = some_payload() - 8;
     batch[0] = state.last + below(3);
     batch[1] = batch[0] + 1;
-    limits[0] = one_in(2) ? 0 : LARGE_DATA - 1 + below(2);
-    limits[1] = LARGE_DATA - below(2);
+    limits[0] = one_in(2) ? 0 : LARGE_DATA - below(3);
+    limits[1] = LARGE_DATA - below(3);
     if (limits[1] < limits[0])
         limits[1] = limits[0];
     awirbesh_pushed p = push(PUSH, state, batch, 2, limits, 2, large, LARGE_DATA);
-    if (p.number == 3)
+    if (p.number == 3 || p.number == 4)
         push(AGAIN, p.state, batch + p.written, 1, &less, 1, large, LARGE_DATA);
 }
 

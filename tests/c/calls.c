@@ -1,5 +1,6 @@
-/* Calls each function of awirbesh.h and holds its whole answer to the worked cases of docs/RULES.md 13; and pushes
- * secrets, of which nothing may stay in the filling, docs/RULES.md 1.8. */
+/* Calls each function of awirbesh.h and holds its whole answer to the worked cases of docs/RULES.md 13; pushes
+ * secrets, of which nothing may stay in the filling, docs/RULES.md 1.8; and pushes entries that were refused again,
+ * with the ids that they keep, docs/RULES.md 4.3. */
 #include "awirbesh.h"
 
 #include <stdio.h>
@@ -279,40 +280,177 @@ static void no_old_bytes_in_the_filling(void)
     filling_at_its_edges(store);
 }
 
-/* Data around 2^24 - 8 bytes, which a program of the library's own has no room for. */
-static void large_data(void)
+/* ---- order, size and room; an entry that 3 or 4 refuses keeps its id ---- */
+
+/* The longest data that 16 lets through, one byte too many for an entry; a program of the library's own has no room. */
+enum { LIMIT = 16777208, LARGE_STORE = 16401 * PAGE };
+
+static uint8_t *memory_of(size_t size, int byte)
 {
-    size_t store_len = 16402 * 1024, data_len = 16777209;
-    uint8_t *store = calloc(store_len, 1), *data = malloc(data_len);
-    if (!store || !data)
+    uint8_t *bytes = malloc(size);
+    if (!bytes)
         abort();
-    memset(data, 7, data_len);
-    awirbesh_state state = {0, 6, 1};
-    uint64_t id = 7, end = 16777208;
-    awirbesh_pushed p = awirbesh_push(store, store_len, state, &id, 1, &end, 1, data, data_len);
-    same("2^24 - 8 bytes", p.number, AWIRBESH_TOO_LARGE);
-    same("2^24 - 8 bytes, written", p.written, 0);
-    same_state("2^24 - 8 bytes", p.state, 0, 7, 1);
-    p = awirbesh_push(store, store_len, p.state, &id, 1, &end, 1, data, data_len);
-    same("the same id again", p.number, AWIRBESH_OUT_OF_ORDER);
-    end = 16777209;
-    id = 8;
-    p = awirbesh_push(store, store_len, p.state, &id, 1, &end, 1, data, data_len);
-    same("one byte more", p.number, AWIRBESH_VALUE_TOO_LARGE);
-    same_state("one byte more", p.state, 0, 7, 1);
-    end = 16777207;
-    p = awirbesh_push(store, store_len, p.state, &id, 1, &end, 1, data, data_len);
-    same("one byte less", p.number, AWIRBESH_OK);
-    same_state("one byte less", p.state, 16401 * 1024, 8, 1);
-    uint64_t two[2] = {9, 10}, ends[2] = {0, 1013};
-    p = awirbesh_push(store, store_len, p.state, two, 2, ends, 2, data, data_len);
-    same("no room for the second", p.number, AWIRBESH_NO_ROOM);
-    same("no room for the second, written", p.written, 1);
-    same_state("no room for the second", p.state, 16402 * 1024, 10, 1);
-    p = awirbesh_push(store, store_len, p.state, two, 2, ends, 1, data, data_len);
-    same("counts differ", p.number, AWIRBESH_BAD_BATCH);
+    memset(bytes, byte, size);
+    return bytes;
+}
+
+static awirbesh_pushed push_one(uint8_t *store, size_t store_len, awirbesh_state state, uint64_t id,
+                                const uint8_t *data, size_t length)
+{
+    const uint64_t end = length;
+    return awirbesh_push(store, store_len, state, &id, 1, &end, 1, data, length);
+}
+
+/* A refusal that wrote nothing: the state stays. */
+static void is_refused(const char *what, awirbesh_pushed p, uint64_t number, awirbesh_state before)
+{
+    same(what, p.number, number);
+    same(what, p.written, 0);
+    same_state(what, p.state, before.length, before.last, before.next);
+}
+
+static void is_written(const char *what, awirbesh_pushed p, uint64_t written, uint64_t length, uint64_t last)
+{
+    same(what, p.number, AWIRBESH_OK);
+    same(what, p.written, written);
+    same(what, p.state.length, length);
+    same(what, p.state.last, last);
+}
+
+/* No byte was written since the store was made. */
+static void is_old(const char *what, const uint8_t *bytes, size_t length)
+{
+    size_t old = 0;
+    while (old < length && bytes[old] == OLD)
+        old++;
+    same(what, old, length);
+}
+
+static void is_stored(const char *what, const uint8_t *store, size_t store_len, awirbesh_state state, uint64_t id,
+                      const uint8_t *data, size_t length)
+{
+    uint8_t *out = memory_of(length + 1, OLD);
+    awirbesh_look l = awirbesh_lookup(store, store_len, state, id, out, length);
+    same(what, l.number, AWIRBESH_OK);
+    same(what, l.found, 1);
+    same(what, l.length, length);
+    same_bytes(what, out, data, length);
+    free(out);
+}
+
+/* Rule 13.6, with the store just as long as the largest entry, and each time from the refusal on. */
+static void fewer_bytes_than_too_many(void)
+{
+    static const struct {
+        size_t length, pages;
+    } fewer[] = {{0, 1}, {1012, 1}, {1013, 2}, {LIMIT - 1, LARGE_STORE / PAGE}};
+    const awirbesh_state before = {0, 6, 8};
+    uint8_t *store = memory_of(LARGE_STORE, OLD), *data = memory_of(LIMIT + 1, 7);
+    for (size_t i = 0; i < sizeof fewer / sizeof *fewer; i++) {
+        memset(store, OLD, LARGE_STORE);
+        awirbesh_pushed p = push_one(store, LARGE_STORE, before, 7, data, LIMIT);
+        is_refused("2^24 - 8 bytes", p, AWIRBESH_TOO_LARGE, before);
+        p = push_one(store, LARGE_STORE, p.state, 7, data, LIMIT + 1);
+        is_refused("one byte more", p, AWIRBESH_VALUE_TOO_LARGE, before);
+        is_old("after 3 and 16", store, LARGE_STORE);
+        size_t after = fewer[i].pages * PAGE;
+        p = push_one(store, LARGE_STORE, p.state, 7, data, fewer[i].length);
+        is_written("the same id with fewer", p, 1, after, 7);
+        is_old("after the same id with fewer", store + after, LARGE_STORE - after);
+        is_stored("the same id with fewer", store, LARGE_STORE, p.state, 7, data, fewer[i].length);
+        is_refused("and once more", push_one(store, LARGE_STORE, p.state, 7, data, 0), AWIRBESH_OUT_OF_ORDER, p.state);
+    }
     free(store);
     free(data);
+}
+
+/* Entries of 1, 2, 2 and 1 pages, for which a store of 4 pages has no room from the third on. */
+enum { SMALL = 4 * PAGE, THIRD_BEGINS = 1500, THIRD_ENDS = 2600, FOURTH_ENDS = 2700 };
+static const uint64_t crowd_ids[4] = {3, 5, 9, 12}, crowd_ends[4] = {100, THIRD_BEGINS, THIRD_ENDS, FOURTH_ENDS};
+
+/* The store is longer than what is lent of it here. */
+static awirbesh_state push_crowd(uint8_t *store)
+{
+    const awirbesh_state before = {0, 0, 13};
+    memset(store, OLD, STORE);
+    awirbesh_pushed p = awirbesh_push(store, SMALL, before, crowd_ids, 4, crowd_ends, 4, batch_data, FOURTH_ENDS);
+    same("no room for the third", p.number, AWIRBESH_NO_ROOM);
+    same("no room for the third, written", p.written, 2);
+    same_state("no room for the third", p.state, 3 * PAGE, 5, 13);
+    is_old("no room for the third", store + p.state.length, STORE - p.state.length);
+    return p.state;
+}
+
+/* The first two are where they were, and the log is sound. */
+static void is_crowd(const char *what, const uint8_t *store, size_t store_len, awirbesh_state state)
+{
+    is_stored(what, store, store_len, state, 3, batch_data, 100);
+    is_stored(what, store, store_len, state, 5, batch_data + 100, THIRD_BEGINS - 100);
+    same(what, awirbesh_check(store, store_len, state.length).number, AWIRBESH_OK);
+}
+
+static void less_data_in_the_same_store(uint8_t *store)
+{
+    awirbesh_state state = push_crowd(store);
+    const uint8_t *third = batch_data + THIRD_BEGINS;
+    awirbesh_pushed p = push_one(store, SMALL, state, 9, third, THIRD_ENDS - THIRD_BEGINS);
+    is_refused("no less data", p, AWIRBESH_NO_ROOM, state);
+    p = push_one(store, SMALL, p.state, 9, third, 1013);
+    is_refused("a byte too much for a page", p, AWIRBESH_NO_ROOM, state);
+    is_old("no less data", store + 3 * PAGE, STORE - 3 * PAGE);
+    p = push_one(store, SMALL, p.state, 9, third, 1012);
+    is_written("less data", p, 1, SMALL, 9);
+    is_old("past less data", store + SMALL, STORE - SMALL);
+    is_stored("less data", store, SMALL, p.state, 9, third, 1012);
+    is_crowd("before less data", store, SMALL, p.state);
+}
+
+static void same_data_in_a_longer_store(uint8_t *store)
+{
+    const uint64_t ends[2] = {THIRD_ENDS - THIRD_BEGINS, FOURTH_ENDS - THIRD_BEGINS};
+    const uint8_t *third = batch_data + THIRD_BEGINS;
+    awirbesh_state state = push_crowd(store);
+    awirbesh_pushed p = awirbesh_push(store, SMALL + PAGE - 1, state, crowd_ids + 2, 2, ends, 2, third, ends[1]);
+    is_refused("a byte too short", p, AWIRBESH_NO_ROOM, state);
+    p = awirbesh_push(store, STORE, p.state, crowd_ids + 2, 2, ends, 2, third, ends[1]);
+    is_written("a longer store", p, 2, 6 * PAGE, 12);
+    is_old("past a longer store's log", store + 6 * PAGE, STORE - 6 * PAGE);
+    is_stored("a longer store", store, STORE, p.state, 9, third, ends[0]);
+    is_stored("a longer store", store, STORE, p.state, 12, third + ends[0], ends[1] - ends[0]);
+    is_crowd("before a longer store", store, STORE, p.state);
+}
+
+/* Order before size and room, size before room: of one page, of several and of too many. */
+static void first_test_that_fails(uint8_t *store)
+{
+    static const struct {
+        size_t length;
+        uint64_t in_order;
+    } sizes[] = {{0, AWIRBESH_NO_ROOM}, {3000, AWIRBESH_NO_ROOM}, {LIMIT, AWIRBESH_TOO_LARGE}};
+    const awirbesh_state full = {SMALL, 9, 13};
+    uint8_t *data = memory_of(LIMIT, 7);
+    memset(store, OLD, STORE);
+    for (size_t i = 0; i < sizeof sizes / sizeof *sizes; i++) {
+        for (uint64_t id = 0; id <= 9; id++)
+            is_refused("out of order in a full store", push_one(store, SMALL, full, id, data, sizes[i].length),
+                       AWIRBESH_OUT_OF_ORDER, full);
+        is_refused("in order in a full store", push_one(store, SMALL, full, 10, data, sizes[i].length),
+                   sizes[i].in_order, full);
+    }
+    const uint64_t ids[2] = {10, 11}, end = 0;
+    is_refused("counts differ", awirbesh_push(store, SMALL, full, ids, 2, &end, 1, data, 0), AWIRBESH_BAD_BATCH, full);
+    is_old("a full store", store, STORE);
+    free(data);
+}
+
+static void refused_entries_keep_their_ids(void)
+{
+    static uint8_t store[STORE];
+    make_secret(batch_data, sizeof batch_data);
+    fewer_bytes_than_too_many();
+    less_data_in_the_same_store(store);
+    same_data_in_a_longer_store(store);
+    first_test_that_fails(store);
 }
 
 /* A store of exactly 2^31 bytes is one, and of one byte more is none. Only pages that are read are ever there. */
@@ -375,7 +513,7 @@ int main(void)
     states();
     two_entries();
     no_old_bytes_in_the_filling();
-    large_data();
+    refused_entries_keep_their_ids();
     largest_store();
     sequences();
     if (!failed)
