@@ -80,7 +80,7 @@ enum {
 /* The log's three numbers. A caller may make one up: a length that cannot be is refused with 1. */
 typedef struct {
     uint64_t length; /* bytes of the store that are the log */
-    uint64_t last;   /* the id written last, 0 for none; refusals 3 and 4 of a push use up an id too */
+    uint64_t last;   /* the id of the entry written last, 0 for none */
     uint64_t next;   /* the id that awirbesh_take hands out next */
 } awirbesh_state;
 
@@ -190,10 +190,12 @@ typedef struct {
 } awirbesh_pushed;
 
 /* Appends a batch: entry i has the id ids[i] and the data from ends[i - 1] (0 for the first) to ends[i] of
- * `data`. 1, 13 and 16 change nothing. 2, 3 and 4 end the push at an entry: those before it stay, and after 3
- * and 4 its id is used up. Only the pages added, from the old length to the new, are written to. Never moves
- * next. After an entry's data come zeros to its last page's end: its pages depend on its id and data alone, and hold
- * nothing of the entries before it or of what the store held (rules 1, 11). */
+ * `data`. 1, 13 and 16 change nothing. 2, 3 and 4, tested in this order, end the push at an entry: those before it
+ * stay, and `last` moves with the entries written alone. So an entry that 3 or 4 refuses keeps its id, as those after
+ * it do: push it again with the state answered and less data, or after 4 with a longer store that begins with the
+ * same bytes. Only the pages added, from the old length to the new, are written to. Never moves next. After an
+ * entry's data come zeros to its last page's end: its pages depend on its id and data alone, and hold nothing of the
+ * entries before it or of what the store held (rules 1, 11). */
 awirbesh_pushed awirbesh_push(uint8_t *store, size_t store_len, awirbesh_state state, const uint64_t *ids,
                               size_t ids_len, const uint64_t *ends, size_t ends_len, const uint8_t *data,
                               size_t data_len);
