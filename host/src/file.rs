@@ -80,7 +80,8 @@ impl LogFile {
         Ok(LogFile { file, log, excess, behind: false })
     }
 
-    /// Appends entries; once it returns, those that were written are on the disk.
+    /// Appends entries; once it returns, those that were written are on the disk. What was refused for room can be
+    /// pushed again, with the same ids, after [`LogFile::grow`].
     pub fn push(&mut self, entries: &[Entry]) -> Result<(), Error> {
         if self.behind {
             return Err(io::Error::other("an earlier write failed: open the log again").into());
@@ -101,6 +102,11 @@ impl LogFile {
         self.file.0.seek(SeekFrom::Start(position))?;
         self.file.0.write_all(&self.log.bytes()[position as usize..])?;
         self.file.0.sync_data()
+    }
+
+    /// Makes the store larger, as [`Log::grow`] does. Nothing of the file changes.
+    pub fn grow(&mut self, capacity: usize) -> Result<(), Refusal> {
+        self.log.grow(capacity)
     }
 
     /// Takes the next id. It is in no file until an entry with it is pushed.

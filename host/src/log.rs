@@ -15,7 +15,8 @@ impl Entry {
     }
 }
 
-/// A push that was refused. The entries before the refused one were written and stay.
+/// A push that was refused. The entries before the refused one were written and stay. After [`Refusal::TooLarge`] and
+/// [`Refusal::NoRoom`] the refused one and those after it keep their ids, and can be pushed again.
 #[derive(Clone, Copy, Debug, PartialEq, Eq)]
 pub struct PushRefused {
     pub refusal: Refusal,
@@ -35,7 +36,7 @@ impl std::error::Error for PushRefused {
     }
 }
 
-/// A log in memory: a store of a fixed size and the state of the log in its front.
+/// A log in memory: a store, which [`Log::grow`] makes larger, and the state of the log in its front.
 #[derive(Clone, Debug)]
 pub struct Log {
     store: Vec<u8>,
@@ -52,6 +53,18 @@ impl Log {
     pub fn recover(store: Vec<u8>, length: u64) -> Result<(Log, u64), Refusal> {
         let Recovered { state, excess } = lent::recover(&store, length)?;
         Ok((Log { store, state }, excess))
+    }
+
+    /// Makes the store so many bytes large, so that what was refused for room can be pushed again with its id. A store
+    /// that is as large already stays. One that the library refuses, with 1, is dropped, and the log is as it was.
+    pub fn grow(&mut self, capacity: usize) -> Result<(), Refusal> {
+        if capacity > self.store.len() {
+            let mut store = vec![0; capacity];
+            lent::find(&store, self.state, 0)?; // tests the store's size, and reads no page
+            store[..self.bytes().len()].copy_from_slice(self.bytes());
+            self.store = store;
+        }
+        Ok(())
     }
 
     /// Reads the whole log: whether it is sound.

@@ -51,6 +51,65 @@ fn a_refused_push_writes_what_came_before() {
     assert_eq!(log.log().bytes().len(), 1024);
 }
 
+/// A log of three entries in a store of two pages: the third is refused for room.
+fn three_in_two_pages(path: &Scratch) -> (LogFile, [Entry; 3]) {
+    let mut log = LogFile::open(&path.0, 2 * 1024).unwrap();
+    let entries = ["one", "two", "three"].map(|data| Entry::new(log.take().unwrap(), data));
+    let Err(Error::PushRefused(refused)) = log.push(&entries) else { panic!("not refused") };
+    assert_eq!((refused.refusal, refused.written), (Refusal::NoRoom, 2));
+    assert_eq!(log.log().state(), State { length: 2048, last: 2, next: 4 });
+    assert_eq!(fs::read(&path.0).unwrap(), log.log().bytes());
+    (log, entries)
+}
+
+fn entries_of(log: &LogFile) -> Vec<Entry> {
+    log.log().check().unwrap();
+    log.log().scan(..).unwrap().map(|entry| entry.unwrap()).collect()
+}
+
+#[test]
+fn what_was_refused_for_room_is_in_the_file_once_there_is_more() {
+    let path = Scratch::new("grown");
+    let (mut log, entries) = three_in_two_pages(&path);
+    let before = fs::read(&path.0).unwrap();
+    log.grow(CAPACITY).unwrap();
+    assert_eq!(fs::read(&path.0).unwrap(), before);
+    log.push(&entries[2..]).unwrap();
+    let state = log.log().state();
+    assert_eq!(state, State { length: 3072, last: 3, next: 4 });
+    assert_eq!(fs::read(&path.0).unwrap(), log.log().bytes());
+    drop(log);
+    let again = LogFile::open(&path.0, CAPACITY).unwrap();
+    assert_eq!((again.log().state(), again.excess()), (state, 0));
+    assert_eq!(entries_of(&again), entries);
+}
+
+#[test]
+fn what_was_refused_for_room_takes_its_id_again_after_a_restart() {
+    let path = Scratch::new("restart");
+    let (log, entries) = three_in_two_pages(&path);
+    drop(log);
+    let mut log = LogFile::open(&path.0, CAPACITY).unwrap();
+    assert_eq!(log.log().state(), State { length: 2048, last: 2, next: 3 });
+    assert_eq!(entries_of(&log), entries[..2]);
+    assert_eq!(log.take(), Ok(entries[2].id));
+    log.push(&entries[2..]).unwrap();
+    assert_eq!(entries_of(&log), entries);
+    assert_eq!(fs::read(&path.0).unwrap(), log.log().bytes());
+}
+
+#[test]
+fn a_refused_growth_leaves_log_and_file_alone() {
+    let path = Scratch::new("too-large");
+    let (mut log, entries) = three_in_two_pages(&path);
+    assert_eq!(log.grow((1 << 31) + 1), Err(Refusal::BadState));
+    assert_eq!(fs::read(&path.0).unwrap(), log.log().bytes());
+    assert_eq!(entries_of(&log), entries[..2]);
+    log.grow(3 * 1024).unwrap();
+    log.push(&entries[2..]).unwrap();
+    assert_eq!(entries_of(&log), entries);
+}
+
 #[test]
 fn opening_cuts_a_part_page() {
     let path = Scratch::new("part");

@@ -66,30 +66,97 @@ fn the_same_id_twice() {
 }
 
 #[test]
-fn data_at_the_limit_uses_up_its_id() {
+fn data_at_the_limit_keeps_its_id() {
     let mut log = Log::with_capacity(16_402 * PAGE);
     log.push(&[Entry::new(6, "")]).unwrap();
     let bytes = log.bytes().to_vec();
     let refused = log.push(&[Entry::new(7, vec![0; 16_777_208])]).unwrap_err();
     assert_eq!((refused.refusal, refused.written), (Refusal::TooLarge, 0));
-    assert_eq!(log.state(), State { length: 1024, last: 7, next: 1 });
+    assert_eq!(log.state(), State { length: 1024, last: 6, next: 1 });
     assert_eq!(log.bytes(), bytes);
-    assert_eq!(log.push(&[Entry::new(7, "")]).unwrap_err().refusal, Refusal::OutOfOrder);
 
     // One byte more is refused for the whole batch, before any id is looked at.
-    let refused = log.push(&[Entry::new(8, ""), Entry::new(9, vec![0; 16_777_209])]).unwrap_err();
+    let refused = log.push(&[Entry::new(7, ""), Entry::new(8, vec![0; 16_777_209])]).unwrap_err();
     assert_eq!((refused.refusal, refused.written), (Refusal::ValueTooLarge, 0));
-    assert_eq!(log.state().last, 7);
+    assert_eq!(log.state().last, 6);
+
+    // The same id with far fewer bytes.
+    let mut fewer = log.clone();
+    fewer.push(&[Entry::new(7, "fewer")]).unwrap();
+    assert_eq!(fewer.state(), State { length: 2048, last: 7, next: 1 });
 
     // One byte less is not too large: 16,401 pages, which just fit.
     let data: Vec<u8> = (0..16_777_207u32).map(|i| (i % 251) as u8).collect();
-    log.push(&[Entry::new(8, data.clone())]).unwrap();
+    log.push(&[Entry::new(7, data.clone())]).unwrap();
     assert_eq!(log.state().length, 16_402 * 1024);
     let (again, excess) = Log::recover(log.bytes().to_vec(), log.state().length).unwrap();
-    assert_eq!((again.state().next, excess), (9, 0));
-    assert!(again.get(8) == Ok(Some(data)));
-    assert_eq!(log.push(&[Entry::new(9, "")]).unwrap_err().refusal, Refusal::NoRoom);
-    assert_eq!(log.state().last, 9);
+    assert_eq!((again.state().next, excess), (8, 0));
+    assert!(again.get(7) == Ok(Some(data)));
+}
+
+/// Pages of 1, 2, 2 and 1 in a store of 4: refused for room at the third.
+fn crowd() -> (Log, [Entry; 4]) {
+    let mut log = Log::with_capacity(4 * PAGE);
+    let entries = [(1, 100), (2, 1_100), (3, 1_200), (4, 200)].map(|(id, length)| {
+        assert_eq!(log.take(), Ok(id));
+        Entry::new(id, vec![id as u8; length])
+    });
+    let refused = log.push(&entries).unwrap_err();
+    assert_eq!((refused.refusal, refused.written), (Refusal::NoRoom, 2));
+    assert_eq!(log.state(), State { length: 3 * 1024, last: 2, next: 5 });
+    (log, entries)
+}
+
+fn entries_of(log: &Log) -> Vec<Entry> {
+    log.check().unwrap();
+    log.scan(..).unwrap().map(|entry| entry.unwrap()).collect()
+}
+
+#[test]
+fn what_was_refused_for_room_goes_in_once_there_is_more() {
+    let (mut log, entries) = crowd();
+    let refused = log.push(&entries[2..]).unwrap_err();
+    assert_eq!((refused.refusal, refused.written), (Refusal::NoRoom, 0));
+    log.grow(6 * PAGE).unwrap();
+    assert_eq!(log.state(), State { length: 3 * 1024, last: 2, next: 5 });
+    assert_eq!(entries_of(&log), entries[..2]);
+    log.push(&entries[2..]).unwrap();
+    assert_eq!(log.state(), State { length: 6 * 1024, last: 4, next: 5 });
+    assert_eq!(entries_of(&log), entries);
+    assert_eq!(log.get(3), Ok(Some(vec![3; 1_200])));
+}
+
+#[test]
+fn what_was_refused_for_room_goes_in_with_less_data() {
+    let (mut log, entries) = crowd();
+    log.push(&[Entry::new(3, "less")]).unwrap();
+    assert_eq!(log.state(), State { length: 4 * 1024, last: 3, next: 5 });
+    assert_eq!(log.get(3), Ok(Some(b"less".to_vec())));
+    assert_eq!(entries_of(&log)[..2], entries[..2]);
+    assert_eq!(log.push(&entries[2..]).unwrap_err().refusal, Refusal::OutOfOrder); // 3 is written now
+    assert_eq!(log.push(&entries[3..]).unwrap_err().refusal, Refusal::NoRoom);
+}
+
+#[test]
+fn a_store_never_shrinks() {
+    let (mut log, _) = crowd();
+    for capacity in [4 * PAGE, 4 * PAGE - 1, PAGE, 0] {
+        log.grow(capacity).unwrap();
+    }
+    log.push(&[Entry::new(3, "the fourth page")]).unwrap();
+    assert_eq!(log.state().length, 4 * 1024);
+}
+
+/// The stores of about 2^31 bytes are never written to, so that the system has to find no memory for them.
+#[test]
+fn a_store_that_the_library_refuses_is_not_kept() {
+    let (mut log, entries) = crowd();
+    assert_eq!(log.grow((1 << 31) + 1), Err(Refusal::BadState));
+    assert_eq!(log.push(&entries[2..]).unwrap_err().refusal, Refusal::NoRoom);
+    log.grow(1 << 31).unwrap();
+    assert_eq!(log.grow((1 << 31) + 1), Err(Refusal::BadState));
+    log.push(&entries[2..]).unwrap();
+    assert_eq!(entries_of(&log), entries);
 }
 
 #[test]
