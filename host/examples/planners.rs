@@ -1,16 +1,23 @@
 //! Three query planners share one catalog log of the indexes that they really build. A what-if session takes an id
-//! as a build does, and drops it: nothing of it is stored. Later a planner asks of each id which it was.
+//! as a build does, and drops it: nothing of it is stored. A build for which the log has no room goes in with the same
+//! id once there is more. Later a planner asks of each id which it was.
 //!
 //! `cargo run --example planners [FILE]`; without a file the log lies in the temporary folder and is removed.
 use std::path::PathBuf;
 
-use awirbesh::{Entry, Error, IdSequence, LogFile};
+use awirbesh::{Entry, Error, IdSequence, LogFile, PushRefused, Refusal};
 
-/// Bytes of memory, and the most that the log's file can grow to.
-const CAPACITY: usize = 1 << 20;
+/// Room for two pages beyond those that the file has: too little for the story, so that a build is refused.
+const LITTLE_ROOM: usize = 2 * 1024;
+const MORE_ROOM: usize = 1 << 20;
+
+fn open_log(path: &PathBuf) -> Result<LogFile, Error> {
+    let length = std::fs::metadata(path).map_or(0, |file| file.len() as usize);
+    LogFile::open(path, length + LITTLE_ROOM)
+}
 
 /// Where the planners bring the index builds that they finished, in any order. Ids go into the log in ascending order, so
-/// a build waits here until every id before it is settled: built or dropped.
+/// a build waits here until every id before it is settled, built or dropped, and until there is room for it.
 struct Catalog {
     log: LogFile,
     settled: IdSequence,
@@ -19,7 +26,7 @@ struct Catalog {
 
 impl Catalog {
     fn open(path: &PathBuf) -> Result<Catalog, Error> {
-        let log = LogFile::open(path, CAPACITY)?;
+        let log = open_log(path)?;
         let settled = IdSequence::new(log.log().state().next);
         Ok(Catalog { log, settled, waiting: Vec::new() })
     }
@@ -45,12 +52,47 @@ impl Catalog {
 
     fn settle(&mut self, id: u64) -> Result<(), Error> {
         self.settled.note(id)?;
-        if self.settled.complete() && !self.waiting.is_empty() {
-            self.waiting.sort_by_key(|entry| entry.id);
-            self.log.push(&self.waiting)?;
-            let ids: Vec<String> = self.waiting.drain(..).map(|entry| entry.id.to_string()).collect();
+        self.log_settled()
+    }
+
+    /// The log is given more room, and what waits for it goes in.
+    fn make_room(&mut self) -> Result<(), Error> {
+        println!("the catalog is given more room");
+        self.log.grow(self.log.log().bytes().len() + MORE_ROOM)?;
+        self.log_settled()
+    }
+
+    /// Once no earlier id is out, what waits goes into the log.
+    fn log_settled(&mut self) -> Result<(), Error> {
+        if !self.settled.complete() || self.waiting.is_empty() {
+            return Ok(());
+        }
+        self.waiting.sort_by_key(|entry| entry.id);
+        match self.log.push(&self.waiting) {
+            Ok(()) => self.drop_logged(self.waiting.len()),
+            Err(Error::PushRefused(refused)) => {
+                self.drop_logged(refused.written);
+                self.wait_for_room(refused)?;
+            }
+            Err(error) => return Err(error),
+        }
+        Ok(())
+    }
+
+    /// The first of those that wait are in the log now.
+    fn drop_logged(&mut self, count: usize) {
+        let ids: Vec<String> = self.waiting.drain(..count).map(|entry| entry.id.to_string()).collect();
+        if !ids.is_empty() {
             println!("  no earlier id is out: the log now has {}", ids.join(", "));
         }
+    }
+
+    /// What is refused for room waits on, the refused build first. Any other refusal is an error.
+    fn wait_for_room(&self, refused: PushRefused) -> Result<(), Error> {
+        if refused.refusal != Refusal::NoRoom {
+            return Err(Error::PushRefused(refused));
+        }
+        println!("  {refused}; index {} keeps its id and waits", self.waiting[0].id);
         Ok(())
     }
 }
@@ -67,6 +109,7 @@ fn tell(path: &PathBuf) -> Result<(), Error> {
     catalog.build("planner A", on_orders, "orders (customer, day)")?;
     catalog.drop_id("planner C", what_if)?;
     catalog.build("planner B", on_lines, "lines (product)")?;
+    catalog.make_room()?;
 
     let another = catalog.take("planner A")?;
     catalog.drop_id("planner A", another)?;
@@ -94,7 +137,7 @@ fn tell(path: &PathBuf) -> Result<(), Error> {
     }
 
     drop(catalog);
-    let again = LogFile::open(path, CAPACITY)?;
+    let again = open_log(path)?;
     again.log().check()?;
     let state = again.log().state();
     println!("\nopened again: {} bytes, last written {}, next id {}; sound", state.length, state.last, state.next);
