@@ -2,4 +2,4 @@ pub mod Appending
 pub mod Ways
 pub mod Batch
 pub mod Alone
-pub mod Again
+pub mod Retrying

@@ -1,11 +1,13 @@
 -- Rules 11, "What is promised", 11.8 to 11.10: a store with its state, the calls, what they answer and what they leave, and the settled ids.
 use Prim.Native.Nat.{ℕ, _^_, _≤_, _<_}
 use mathlib.Core.Path.{_≡_}
-use mathlib.Core.List.{List, [], _∷_, List·Memᴰ}
+use mathlib.Core.List.{List, [], _∷_, _++_, List·Memᴰ}
 use lib.ListN.{length, getD, take}
+use Rattle.refusal.specs.Pick.{pick}
 use Rattle.page.specs.Entry.{idAt}
 use Rattle.page.specs.Data.{dataAt}
 use Rattle.page.specs.Write.{overwritten}
+use Rattle.log.specs.Bounds.{tooLong}
 use Rattle.log.specs.Output.{WithOutput}
 use Rattle.log.specs.State.{Taking, taken, refused as untaken, takeOf}
 use Rattle.pushing.specs.Push.{Done, pushOf}
@@ -36,7 +38,7 @@ logOf w = take (w .state .length) (w .store)
 abbrev pub Words : List ℕ → Type 0
 Words ids = (k : ℕ) → getD ids k 0 < 2 ^ 64
 
--- any push, take, find, lookup, scan, step or recovery at the log's length: any batch, id, range, cursor and output
+-- any push, take, find, lookup, scan, step or recovery at the log's length: any batch, id, range, cursor and output; and any bytes that make the store longer
 pub data Call : Type 0 where
   push : (ids ends bytes : List ℕ) → Words ids → Call
   take-id : Call
@@ -45,6 +47,7 @@ pub data Call : Type 0 where
   scan : (range : Range) → Call
   step-on : (range : Range) (cursor : ℕ) (out : List ℕ) → Call
   recover : Call
+  lengthen : (more : List ℕ) → Call
 
 -- what a call answers, and what it leaves in what it is lent, by the definitions that the functions' contracts cite
 pub data Answer : Type 0 where
@@ -55,6 +58,11 @@ pub data Answer : Type 0 where
   scan-began : Beginning → Answer
   stepped : WithOutput Stepping → Answer
   restored : Recovering → Answer
+  lent : List ℕ → Answer
+
+-- a longer store, its first bytes as they were; one that would be refused 1 is not gone on with
+unfoldable pub longer : World → List ℕ → List ℕ
+longer w more = pick (tooLong (w .store ++ more) (w .state .length)) (w .store) (w .store ++ more)
 
 unfoldable pub answer : World → Call → Answer
 answer w (push ids ends bytes words) = pushed (pushOf (w .store) (w .state) ids ends bytes)
@@ -64,6 +72,7 @@ answer w (lookup id out) = looked-up (lookupOf (w .store) (w .state) id out)
 answer w (scan range) = scan-began (scanOf (w .store) (w .state) range)
 answer w (step-on range cursor out) = stepped (stepOf (w .store) (w .state) range cursor out)
 answer w recover = restored (recoverOf (w .store) (w .state .length))
+answer w (lengthen more) = lent (longer w more)
 
 -- the state after an id was asked for: 3.2 "a refusal leaves the state"
 abbrev pub stateAfterTake : State → Taking → State
@@ -75,7 +84,7 @@ abbrev pub stateAfterRecovery : State → Recovering → State
 stateAfterRecovery st (recovered state excess) = state
 stateAfterRecovery st (unrecovered number value) = st
 
--- the world after an answer: a push leaves a store and a state, taking and recovering a state; a lookup and a scan are lent the store to read alone
+-- the world after an answer: a push leaves a store and a state, taking and recovering a state, making it longer a store; a lookup and a scan are lent the store to read alone
 abbrev pub after : World → Answer → World
 after w (pushed r) = world (r .store) (r .answer .state)
 after w (handed-out r) = world (w .store) (stateAfterTake (w .state) r)
@@ -84,6 +93,7 @@ after w (looked-up r) = w
 after w (scan-began r) = w
 after w (stepped r) = w
 after w (restored r) = world (w .store) (stateAfterRecovery (w .state) r)
+after w (lent store) = world store (w .state)
 
 -- one call, with the state that the call before left
 unfoldable pub step : World → Call → World
@@ -121,13 +131,13 @@ pub record Settled (w : World) (id : ℕ) : Type 0 where
   pub most : id ≤ w .state .last
   pub below : id < w .state .next
 
--- 11.10 "at most the id of the last entry stored"
+-- 11.10 "last written may be read as the id of the last entry stored"
 pub record SettledByStored (w : World) (id : ℕ) : Type 0 where
   pub some : 1 ≤ id
-  pub below : id < w .state .next
   pub page : ℕ
   pub last : Last (logOf w) page
   pub most : id ≤ idAt (logOf w) page
+  pub below : id < w .state .next
 
 -- the answer is a lookup's, with that standing and that output after it
 pub record LooksUp (r : Answer) (s : Standing) (out : List ℕ) : Type 0 where
@@ -151,6 +161,7 @@ Gives (lookup i out) r id s d = i ≡ id → length d ≤ length out → LooksUp
 Gives (scan range) r id s d = Unit {0}
 Gives (step-on range cursor out) r id s d = Unit {0}
 Gives recover r id s d = Unit {0}
+Gives (lengthen more) r id s d = Unit {0}
 
 -- and so does every call that is made now
 abbrev pub Answers : World → ℕ → Standing → List ℕ → Type 0

@@ -20,10 +20,10 @@ use Rattle.pushing.specs.Push.{entryData, some, badEnd, badBatch, largeData, so
 use Rattle.demands.specs.Sound.{SoundStore}
 use Rattle.demands.specs.Push.{batchPages, Push, pagesOf}
 use Rattle.demands.specs.History.{World, world, logOf, take-id, recover, answer, step, run, Settled, SettledByStored}
-use Rattle.demands.proofs.Last.{stored-greatest}
+use Rattle.demands.proofs.Last.{last-stored-greatest}
 use Rattle.demands.proofs.Check.Passing.{checked-sound}
 use Rattle.demands.proofs.History.Demands.{last-is-stored}
-use Rattle.worked.proofs.Witnessed.{store, store-is-sound, begins, begins-there, other}
+use Rattle.worked.proofs.Witnessed.{store, store-is-sound, begins, begins-there, three-settled, other}
 
 -- ---- 12.1: what passes the sound check
 
@@ -93,14 +93,22 @@ pub made-up-last : checkOf (pushOf store (stateOf 4096 0 4) (1 ∷ []) (0 ∷ []
 unfolding pagesFor pageAt numberAt bytesOf markAt lengthAt idAt entryAt filled firstPage laterPage laterPages entryPages tooLong badState entryData some badEnd badBatch largeData someLarge wrote turn entriesFrom pushOf laterMarks checkStart checkPage checkEnd checkFrom checkOf
 made-up-last = refl
 
--- ---- 11.8 and 11.10 ask for a history: in a state that was made up 5 is settled by last written, and above the last stored id
+-- ---- 11.8 and 11.10 ask for a history: in states that were made up 5 is settled by last written and above the last stored id, and 3, which is stored, above last written
 
-abbrev made-up : World
-made-up = world store (stateOf 4096 9 10)
+abbrev too-high : World
+too-high = world store (stateOf 4096 9 10)
 
-five-by-last : Settled made-up 5
-five-by-last = record { some = lit≤ tt; most = lit≤ tt; below = lit< tt }
+abbrev too-low : World
+too-low = world store (stateOf 4096 0 4)
 
-pub made-up-settled : Settled made-up 5 × (SettledByStored made-up 5 → ⊥)
+pub settled-not-stored : Settled too-high 5 × (SettledByStored too-high 5 → ⊥)
 unfolding run
-made-up-settled = (five-by-last, λ h. omega (arith, h .most, stored-greatest (logOf begins) (store-is-sound .sound) 3 (last-is-stored begins begins-there []) (h .page) (h .last .start)))
+settled-not-stored = (
+  record { some = lit≤ tt; most = lit≤ tt; below = lit< tt },
+  λ h. omega (arith, h .most, last-stored-greatest (logOf begins) (store-is-sound .sound) 3 (last-is-stored begins begins-there []) (h .page) (h .last .start)),
+)
+
+pub stored-not-settled : SettledByStored too-low 3 × (Settled too-low 3 → ⊥)
+stored-not-settled =
+    let s = three-settled in
+    (record { some = s .some; page = s .page; last = s .last; most = s .most; below = lit< tt }, λ h. omega (arith, h .most))

@@ -4,10 +4,10 @@
 --   any-guess-right                           by guesses that are not the rule's: other-guesses, other-guesses-right
 --   refused-lookup-keeps, refused-step-keeps  in a state that is refused 1: lookup-kept, step-kept
 --   settled, begun-settled                    from its recovered state, 3 stays found and 2 absent: three-stays-found, two-stays-absent, three-was-given
---   settled-by-stored                         3 is settled by the last entry stored too: three-settled
---   refused-keeps-id, tried-again             4 is refused for room, and taken with less data: four-refused, four-tried-again
---   last-is-stored                            it is the last id stored then: four-is-last
---   one-too-large, one-written                7 is refused with 16,777,208 bytes and taken with fewer, 13.6: seven-refused, seven-written, so-many
+--   settled-by-stored, settled-in-words       3 is settled by the last entry stored too, and stays so: three-settled, three-stays-settled
+--   refused-keeps-id, tried-again             4 is refused for room, and written with less data, and in a longer store: four-refused, four-with-less, four-with-room;
+--                                             7 is refused with 16,777,208 bytes, and written with fewer: seven-refused, seven-written, seven-there
+--   last-is-stored, push-last-stored          4 is the last id stored, after it was refused and the store made longer; and 5: four-is-last, five-is-last
 --   push-right, push-whole                    5 is pushed: five-is-held, all-written
 --   pages-alone, earlier-hidden               5 after 9, 9, 9 over 255s, by itself after that log, after 6: five-alike, nines-hidden
 --   filling-written                           of its second page, over 255s: five-filled
@@ -16,7 +16,7 @@
 --   complete-right, note-adds                 over words that are not zero: notes-right, three-added
 --   data-one-part                             the data of an entry of one page: five-bytes
 use Prim.Native.Nat.{ℕ, zero, suc, _+_, _-_, _≤_, _<_}
-use mathlib.Core.Path.{_≡_, refl}
+use mathlib.Core.Path.{_≡_, refl, ap}
 use mathlib.Core.Bool.{true}
 use mathlib.Core.Logic.{_⊎_, _↔_, inl, inr, ⊎-elim}
 use mathlib.Core.List.{List, [], _∷_, _++_, List·Memᴰ·head}
@@ -33,7 +33,7 @@ use Rattle.log.specs.Round.{stop, again}
 use Rattle.log.specs.Bounds.{tooLong, badState, Fits, Good}
 use Rattle.log.specs.State.{fresh, stateOf, takeOf}
 use Rattle.demands.specs.Sound.{Start, SoundStore, Last, LastStored}
-use Rattle.demands.specs.Push.{logAfter, Holds, Ready, Push, dataIn, pagesOf, AlikeFrom}
+use Rattle.demands.specs.Push.{logAfter, Holds, Ready, Push, dataIn, outcome, pagesOf, AlikeFrom}
 use Rattle.demands.specs.Recovery.{RightRecovery}
 use Rattle.demands.specs.Lookup.{present, missing, RightStanding, Room, RightLookup, AnyGuess, stops, narrows}
 use Rattle.demands.specs.Scan.{Enough, Scans}
@@ -41,19 +41,19 @@ use Rattle.log.specs.Guess.{leastFrom, leastShift, offsetOf}
 use Rattle.log.specs.Lookup.{found, roundFrom, window, allPages, compared, sayingAt, turned, walk, search, searchOf, findOf, handFound, lookupOf}
 use Rattle.log.specs.Check.{laterMarks, checkStart, checkPage, checkEnd, checkFrom, checkOf}
 use Rattle.log.specs.Recovery.{cutLog, atLast, walkBack, recoverLog, recoverOf}
-use Rattle.pushing.specs.Push.{none, refused, pushing, point, bytesFor, Done, done, entryData, some, badEnd, badBatch, largeData, someLarge, wrote, turn, entriesFrom, pushOf}
+use Rattle.pushing.specs.Push.{none, refused, point, bytesFor, Done, done, entryData, some, badEnd, badBatch, largeData, someLarge, wrote, turn, entriesFrom, pushOf}
 use Rattle.scanning.specs.Range.{holdsOf}
 use Rattle.scanning.specs.Scan.{scanOf}
 use Rattle.scanning.specs.Step.{stepStart, stepPage, forward, forwardFrom, stepOf}
 use Rattle.log.specs.declared.state.State.{State}
 use Rattle.scanning.specs.declared.Range.{Range}
 use Rattle.scanning.specs.declared.End.the-variants.{Open}
-use Rattle.demands.specs.History.{World, world, logOf, Words, Call, push, take-id, find, lookup, answer, step, run, said, Begun, Settled, SettledByStored, LooksUp, Gives, Answers, ReadsBack}
+use Rattle.demands.specs.History.{World, world, logOf, Words, Call, push, take-id, find, lookup, lengthen, longer, answer, step, run, said, Begun, Settled, SettledByStored, LooksUp, Gives, Answers, ReadsBack}
 use Rattle.page.proofs.Runs.{data-one-part}
 use Rattle.demands.proofs.Check.Passing.{checked-sound}
-use Rattle.demands.proofs.Push.Batch.{push-right, push-whole}
-use Rattle.demands.proofs.Last.{stored-ready}
-use Rattle.demands.proofs.Push.Again.{one-too-large, one-written, tried-again}
+use Rattle.demands.proofs.Push.Batch.{push-right, push-last-stored, push-whole}
+use Rattle.demands.proofs.Last.{last-stored-ready}
+use Rattle.demands.proofs.Push.Retrying.{one-too-large, tried-again}
 use Rattle.demands.proofs.Push.Alone.{pages-alone, earlier-hidden, filling-written}
 use Rattle.demands.proofs.Recovery.Resuming.{recover-right, recover-alike}
 use Rattle.demands.proofs.History.Lasting.{standingData}
@@ -69,7 +69,7 @@ use Rattle.sequence.specs.Known.{Known}
 use Rattle.sequence.specs.History.{begun, RightSequence, run as run-notes}
 use Rattle.sequence.proofs.Adds.{note-adds}
 use Rattle.sequence.proofs.Complete.{complete-right}
-use Rattle.demands.proofs.History.Demands.{begun-lives, begun-settled, last-is-stored, settled-by-stored, settled, read-back}
+use Rattle.demands.proofs.History.Demands.{begun-lives, begun-settled, last-is-stored, settled-by-stored, settled, settled-in-words, read-back}
 use Rattle.worked.proofs.Listed.{ninePage}
 
 -- ---- a sound log: id 1 with a byte, an idle page, id 3 on two pages
@@ -117,11 +117,15 @@ last-there = record {
 }
 
 settled-there : (id : ℕ) → 1 ≤ id → id ≤ 3 → Settled begins id
-settled-there id some most = begun-settled begins begins-there id some most
+settled-there = begun-settled begins begins-there
 
 pub three-settled : SettledByStored begins 3
 unfolding run
 three-settled = settled-by-stored begins begins-there [] 3 .0 (settled-there 3 (lit≤ tt) (lit≤ tt))
+
+pub three-stays-settled : (later : List Call) → SettledByStored (run begins later) 3
+unfolding run
+three-stays-settled later = settled-in-words begins begins-there [] 3 three-settled .1 later
 
 -- ---- id 3 is found and id 2 is absent, through any calls
 
@@ -187,7 +191,7 @@ abbrev pushes-five : Call
 pushes-five = push (5 ∷ []) (1 ∷ []) (8 ∷ []) one-word
 
 ready-there : Ready store (begins .state)
-ready-there = let i = begun-lives begins begins-there in stored-ready store (begins .state) (i .good) (i .last)
+ready-there = let i = begun-lives begins begins-there in last-stored-ready store (begins .state) (i .good) (i .last)
 
 pub five-is-held : Holds (logAfter (pushOf store (begins .state) (5 ∷ []) (1 ∷ []) (8 ∷ []))) 5 (8 ∷ [])
 unfolding pagesFor pageAt bytesOf filled firstPage laterPage laterPages entryPages tooLong badState entryData some badEnd badBatch largeData someLarge wrote turn entriesFrom pushOf
@@ -212,55 +216,78 @@ pub five-stays-read : (later : List Call) → Answers (run pushed-five later) 5 
 unfolding run
 five-stays-read later = five-reads-back .reads later (settled begins begins-there (take-id ∷ take-id ∷ pushes-five ∷ []) 5 five-settled .kept later .settled .below)
 
--- ---- 4 is pushed with more than the two pages of room hold, and again with a byte
+-- ---- 4 is pushed with more than the two pages of room hold; then again with a byte, or as it was in a longer store
 
 pub four-word : Words (4 ∷ [])
 four-word zero = lit< tt
 four-word (suc k) = lit< tt
 
-abbrev too-much : Call
-too-much = push (4 ∷ []) (2036 ∷ []) (replicate 2036 0) four-word
+abbrev much : List ℕ
+much = replicate 2036 7
 
-abbrev smaller : Call
-smaller = push (4 ∷ []) (1 ∷ []) (8 ∷ []) four-word
+abbrev pushes-four : List ℕ → Call
+pushes-four d = push (4 ∷ []) (length d ∷ []) d four-word
 
--- the refused push leaves the store and the state
-pub four-refused : run begins (take-id ∷ too-much ∷ []) ≡ run begins (take-id ∷ [])
-unfolding pagesFor bytesOf filled firstPage laterPage laterPages entryPages tooLong badState takeOf entryData some badEnd badBatch largeData someLarge wrote turn entriesFrom pushOf answer step run
-four-refused = refl
+-- once its id is taken
+abbrev taken-four : State
+taken-four = stateOf 4096 3 5
 
 abbrev refused-four : Push
-refused-four = record { store = store; state = stateOf 4096 3 5; ids = 4 ∷ []; ends = 2036 ∷ []; bytes = replicate 2036 0 }
+refused-four = record { store = store; state = taken-four; ids = 4 ∷ []; ends = 2036 ∷ []; bytes = much }
+
+pub four-refused : outcome refused-four ≡ done (refused 4 0) 0 (point taken-four store)
+unfolding pagesFor bytesOf filled firstPage laterPage laterPages entryPages tooLong badState entryData some badEnd badBatch largeData someLarge wrote turn entriesFrom pushOf
+four-refused = refl
 
 good-there : Good store 4096
 unfolding pagesFor bytesOf filled firstPage laterPage laterPages entryPages
 good-there = record { fits = store-is-sound .fits; whole = refl }
 
-pub four-tried-again : pushOf store (stateOf 4096 3 5) (4 ∷ []) (1 ∷ []) (8 ∷ []) .answer ≡ pushing none 1 (stateOf 5120 4 5)
+pub four-with-less : pushOf store taken-four (4 ∷ []) (1 ∷ []) (8 ∷ []) ≡ done none 1 (wrote 4 (8 ∷ []) (point taken-four store))
 unfolding pagesFor bytesOf filled firstPage laterPage laterPages entryPages tooLong badState entryData some badEnd badBatch largeData someLarge wrote turn entriesFrom pushOf
-four-tried-again = tried-again refused-four 4 (inr refl) refl store (8 ∷ []) good-there (lit< tt) (lit≤ tt)
+four-with-less = tried-again refused-four 4 (inr refl) refl store (8 ∷ []) good-there (lit< tt) (lit≤ tt)
 
-pub four-is-last : LastStored (logOf (run begins (take-id ∷ too-much ∷ smaller ∷ []))) 4
-unfolding pagesFor bytesOf filled firstPage laterPage laterPages entryPages tooLong badState takeOf entryData some badEnd badBatch largeData someLarge wrote turn entriesFrom pushOf answer step run
-four-is-last = last-is-stored begins begins-there (take-id ∷ too-much ∷ smaller ∷ [])
+-- a page more
+abbrev page-more : List ℕ
+page-more = replicate 1024 0
 
--- ---- 13.6, of any 16,777,208 bytes in any store with last written 6
+good-longer : Good (store ++ page-more) 4096
+unfolding pagesFor bytesOf filled firstPage laterPage laterPages entryPages
+good-longer = record { fits = record { small = lit≤ tt; inside = lit≤ tt }; whole = refl }
+
+pub four-with-room : pushOf (store ++ page-more) taken-four (4 ∷ []) (2036 ∷ []) much ≡ done none 1 (wrote 4 much (point taken-four (store ++ page-more)))
+unfolding pagesFor bytesOf filled firstPage laterPage laterPages entryPages tooLong badState entryData some badEnd badBatch largeData someLarge wrote turn entriesFrom pushOf
+four-with-room = tried-again refused-four 4 (inr refl) refl (store ++ page-more) much good-longer (lit< tt) (lit≤ tt)
+
+-- in a history: refused, the store made longer, the same push
+pub four-is-last : LastStored (logOf (run begins (take-id ∷ pushes-four much ∷ lengthen page-more ∷ pushes-four much ∷ []))) 4
+unfolding pagesFor bytesOf filled firstPage laterPage laterPages entryPages tooLong badState takeOf entryData some badEnd badBatch largeData someLarge wrote turn entriesFrom pushOf longer answer step run
+four-is-last = last-is-stored begins begins-there (take-id ∷ pushes-four much ∷ lengthen page-more ∷ pushes-four much ∷ [])
+
+pub five-is-last : LastStored (logAfter (pushOf store (begins .state) (5 ∷ []) (1 ∷ []) (8 ∷ []))) 5
+unfolding pagesFor bytesOf filled firstPage laterPage laterPages entryPages tooLong badState entryData some badEnd badBatch largeData someLarge wrote turn entriesFrom pushOf
+five-is-last = let i = begun-lives begins begins-there in push-last-stored (5 ∷ []) (1 ∷ []) (8 ∷ []) one-word store (begins .state) (i .good) (i .last)
+
+-- ---- 13.6, of any 16,777,208 bytes and any store with last written 6
 
 module _ (store₆ : List ℕ) (st : State) (g : Good store₆ (st .length)) (six : st .last ≡ 6) (d : List ℕ) (long : length d ≡ 16777208) where
-  abbrev seven : Done
-  seven = pushOf store₆ st (7 ∷ []) (length d ∷ []) d
+  abbrev seven : Push
+  seven = record { store = store₆; state = st; ids = 7 ∷ []; ends = length d ∷ []; bytes = d }
 
   -- refusal 3, nothing written, and the state and the store stay
-  pub seven-refused : seven ≡ done (refused 3 0) 0 (point st store₆)
+  pub seven-refused : outcome seven ≡ done (refused 3 0) 0 (point st store₆)
   seven-refused = one-too-large store₆ st 7 d g (omega arith) long
 
+  -- then with fewer bytes, as many as have room
   pub seven-written : (less : List ℕ) → length less < 16777208 → bytesFor less ≤ length store₆ - st .length
-      → pushOf (seven .store) (seven .answer .state) (7 ∷ []) (length less ∷ []) less .answer ≡ pushing none 1 (stateOf (st .length + bytesFor less) 7 (st .next))
-  seven-written less b c = rw seven-refused (one-written store₆ st 7 less g (omega arith) b c)
+      → pushOf (outcome seven .store) (outcome seven .answer .state) (7 ∷ []) (length less ∷ []) less ≡ done none 1 (wrote 7 less (point st store₆))
+  seven-written less b c =
+      let why = ap (λ (r : Done). r .answer .reason) seven-refused in
+      rw seven-refused (rw seven-refused at (tried-again seven 3 (inl refl) why store₆ less (rw seven-refused g) b (rw seven-refused c)))
 
--- there are so many
-pub so-many : length {A = ℕ} (replicate 16777208 0) ≡ 16777208
-so-many = length-replicate {0} {A = ℕ} 16777208 0
+-- so many bytes there are, and such a store
+pub seven-there : (length {A = ℕ} (replicate 16777208 0) ≡ 16777208) × Good store 4096
+seven-there = (length-replicate {0} {A = ℕ} 16777208 0, good-there)
 
 -- ---- the pages of 5 are the same wherever it is pushed
 

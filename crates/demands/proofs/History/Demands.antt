@@ -17,7 +17,7 @@ use Rattle.demands.specs.Push.{Holds}
 use Rattle.demands.specs.Lookup.{Standing, present, standing, RightStanding}
 use Rattle.demands.specs.History.{World, logOf, Words, Call, push, step, answer, run, Said, said, Begun, Settled, SettledByStored, Answer, Gives, Answers, Keeps, KeepsFirst, ReadsBack}
 use Rattle.demands.proofs.Lookup.Right.{find-right, find-stored, right-unique}
-use Rattle.demands.proofs.Last.{stored-greatest, stored-ready}
+use Rattle.demands.proofs.Last.{last-stored-greatest, last-stored-ready}
 use Rattle.demands.proofs.Push.Appending.{holds-kept}
 use Rattle.demands.proofs.Push.Batch.{push-right}
 use Rattle.demands.proofs.Recovery.Resuming.{Resumed, recovered-fits, recovered-resumes}
@@ -65,7 +65,7 @@ module _ (w : World) (i : Lives w) (id : ℕ) where
       go (last-entry p l e) = record { some = h .some; below = h .below; page = p; last = l; most = omega (arith, h .most, e) }
 
   from-stored : SettledByStored w id → Settled w id
-  from-stored h = record { some = h .some; most = omega (arith, h .most, stored-greatest (logOf w) (i .good .sound) (w .state .last) (i .last) (h .page) (h .last .start)); below = h .below }
+  from-stored h = record { some = h .some; most = omega (arith, h .most, last-stored-greatest (logOf w) (i .good .sound) (w .state .last) (i .last) (h .page) (h .last .start)); below = h .below }
 
 pub settled-by-stored : (w : World) → Begun w → (calls : List Call) (id : ℕ) → Settled (run w calls) id ↔ SettledByStored (run w calls) id
 settled-by-stored w b calls id =
@@ -139,6 +139,15 @@ settled w b earlier id h =
           subst (λ (r : Answer). Gives (x .call) r id s d) (sym (a .is)) (kept-answer v (run v (a .earlier)) i (moved-run v (a .earlier) i) id h .answers (x .call));
     }
 
+-- DEMAND 3 in its own words: settled by the last entry stored, it stays so, and keeps its first answer
+pub settled-in-words : (w : World) → Begun w → (earlier : List Call) (id : ℕ) → SettledByStored (run w earlier) id
+    → KeepsFirst (run w earlier) id × ((later : List Call) → SettledByStored (run (run w earlier) later) id)
+settled-in-words w b earlier id s =
+    let v = run w earlier in
+    let i = moved-run w earlier (begun-lives w b) .lives in
+    let h = from-stored v i id s in
+    (settled w b earlier id h, λ later. let m = moved-run v later i in to-stored (run v later) (m .lives) id (m .settled id h))
+
 -- ---- reading back
 
 held-data : (log : List ℕ) (id : ℕ) (d : List ℕ) (h : Holds log id d) → standingData log (present (h .page * pageSize) (length d)) ≡ d
@@ -169,7 +178,7 @@ read-back w b earlier ids ends bytes words k l =
     let i = moved-run w earlier (begun-lives w b) .lives in
     let u = step v (push ids ends bytes words) in
     let j = moved v i (push ids ends bytes words) .lives in
-    let h = push-right ids ends bytes words (v .store) (v .state) (stored-ready (v .store) (v .state) (i .good) (i .last)) .held k l in
+    let h = push-right ids ends bytes words (v .store) (v .state) (last-stored-ready (v .store) (v .state) (i .good) (i .last)) .held k l in
     record {
       position = h .page * pageSize;
       reads = λ later below.

@@ -5,19 +5,22 @@ use mathlib.Core.Bool.{Bool, true, false}
 use mathlib.Core.List.{List, [], _∷_, _++_, append-assoc, append-nil}
 use native.Mathlib.Omega.{arith}
 use lib.Dec.{eqb}
-use lib.ListN.{length}
+use lib.ListN.{take}
+use lib.Seq.{take-append-le}
 use Rattle.refusal.specs.Pick.{pick}
+use Rattle.log.specs.Bounds.{tooLong}
 use Rattle.log.specs.State.{taken, refused as untaken, stateOf, topId, takeOf}
 use Rattle.pushing.specs.Push.{pushOf}
 use Rattle.log.specs.Recovery.{Recovering, recoverOf, excessOf}
 use Rattle.log.specs.declared.state.State.{State}
+use Rattle.log.proofs.Laws.Bounds.{fitting}
 use Rattle.demands.specs.Sound.{SoundStore, LastStored}
 use Rattle.demands.specs.Push.{batchPages}
 use Rattle.demands.specs.Recovery.{RightRecovery}
-use Rattle.demands.specs.History.{World, world, logOf, Words, Call, push, take-id, find, lookup, scan, step-on, recover, answer, stateAfterTake, stateAfterRecovery, step, run, Settled}
+use Rattle.demands.specs.History.{World, world, logOf, Words, Call, push, take-id, find, lookup, scan, step-on, recover, lengthen, longer, answer, stateAfterTake, stateAfterRecovery, step, run, Settled}
 use Rattle.demands.proofs.Sound.{sound-good, sound-length}
-use Rattle.demands.proofs.Last.{stored-unique, stored-rises, stored-ready}
-use Rattle.demands.proofs.Push.Batch.{push-grows, push-right, push-stored}
+use Rattle.demands.proofs.Last.{last-stored-unique, last-stored-rises, last-stored-ready}
+use Rattle.demands.proofs.Push.Batch.{push-grows, push-right, push-last-stored}
 use Rattle.demands.proofs.Recovery.Resuming.{uncut, recover-right, by-recovery}
 
 -- ---- a log that grew
@@ -48,10 +51,10 @@ pub record Moved (w v : World) : Type 0 where
 moved-none : (w : World) → Lives w → Moved w w
 moved-none w i = record { lives = i; grows = grows-none (logOf w); settled = λ id h. h }
 
-pub moved-then : {w v u : World} → Moved w v → Moved v u → Moved w u
+moved-then : {w v u : World} → Moved w v → Moved v u → Moved w u
 moved-then m n = record { lives = n .lives; grows = grows-then (m .grows) (n .grows); settled = λ id h. n .settled id (m .settled id h) }
 
--- the state alone moved: next, or nothing
+-- next alone moved
 restated : (w : World) (st : State) → Lives w → st .length ≡ w .state .length → st .last ≡ w .state .last
     → ((id : ℕ) → Settled w id → id < st .next) → Moved w (world (w .store) st)
 restated w st i e l next = record {
@@ -65,9 +68,9 @@ module _ (w : World) (i : Lives w) where
   moved-push ids ends bytes words =
       let g = push-grows (w .store) (w .state) ids ends bytes in
       let more = batchPages ids ends bytes (pushOf (w .store) (w .state) ids ends bytes .answer .written) in
-      let good = push-right ids ends bytes words (w .store) (w .state) (stored-ready (w .store) (w .state) (i .good) (i .last)) .ready .good in
-      let last = push-stored ids ends bytes words (w .store) (w .state) (i .good) (i .last) in
-      let rises = stored-rises (logOf w) more (rw (g .log) at (good .sound)) (w .state .last) _ (i .last) (rw (g .log) at last) in
+      let good = push-right ids ends bytes words (w .store) (w .state) (last-stored-ready (w .store) (w .state) (i .good) (i .last)) .ready .good in
+      let last = push-last-stored ids ends bytes words (w .store) (w .state) (i .good) (i .last) in
+      let rises = last-stored-rises (logOf w) more (rw (g .log) at (good .sound)) (w .state .last) _ (i .last) (rw (g .log) at last) in
       record {
         lives = record { good = good; last = last };
         grows = record { more = more; is = g .log };
@@ -86,7 +89,7 @@ module _ (w : World) (i : Lives w) where
   moved-recovery excess = by-recovery {excess = excess} (λ r. Moved w (world (w .store) (stateAfterRecovery (w .state) r)))
       (moved-none w i)
       (λ st h.
-      let e = stored-unique (logOf w) (st .last) (w .state .last) (h .last) (i .last) in
+      let e = last-stored-unique (logOf w) (st .last) (w .state .last) (h .last) (i .last) in
       restated w st i (h .size ∙ sound-length (i .good)) e (λ id s. omega (arith, h .next, e, s .most)))
 
   -- a recovery at the log's current length
@@ -94,6 +97,20 @@ module _ (w : World) (i : Lives w) where
   recovery-right =
       let e = uncut (w .store) (w .state .length) (sound-good (i .good) .whole) in
       rw e at (recover-right (w .store) (w .state .length) (i .good .fits) (rw e (i .good .sound)))
+
+  moved-longer : (more : List ℕ) → Moved w (world (longer w more) (w .state))
+  unfolding longer
+  moved-longer more = go (tooLong (w .store ++ more) (w .state .length)) refl
+    where
+      go : (t : Bool) → tooLong (w .store ++ more) (w .state .length) ≡ t → Moved w (world (pick t (w .store) (w .store ++ more)) (w .state))
+      go true e = moved-none w i
+      go false e =
+          let same : take (w .state .length) (w .store ++ more) ≡ logOf w = take-append-le (w .state .length) (w .store) more (i .good .fits .inside) in
+          record {
+            lives = record { good = record { fits = fitting (w .store ++ more) (w .state .length) e; sound = rw same (i .good .sound) }; last = rw same (i .last) };
+            grows = record { more = []; is = same ∙ sym (append-nil (logOf w)) };
+            settled = λ id h. record { some = h .some; most = h .most; below = h .below };
+          }
 
   pub moved : (c : Call) → Moved w (step w c)
   unfolding step answer
@@ -104,6 +121,7 @@ module _ (w : World) (i : Lives w) where
   moved (scan range) = moved-none w i
   moved (step-on range cursor out) = moved-none w i
   moved recover = moved-recovery (excessOf (w .state .length)) _ recovery-right
+  moved (lengthen more) = moved-longer more
 
 pub moved-run : (w : World) (cs : List Call) → Lives w → Moved w (run w cs)
 unfolding run

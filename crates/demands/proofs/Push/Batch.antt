@@ -17,7 +17,7 @@ use Rattle.demands.proofs.Push.Ways.{by-batch, by-turn}
 use Rattle.demands.specs.Sound.{Start, SoundStore, LastStored, last-entry}
 use Rattle.demands.specs.Push.{batchPages, logAfter, Grown, afterEntries, lastOf, Holds, Ready, RightPush}
 use Rattle.demands.specs.History.{Words}
-use Rattle.demands.proofs.Last.{greatest-last, stored-ready}
+use Rattle.demands.proofs.Last.{greatest-last, last-stored-ready}
 use Rattle.demands.proofs.Push.Appending.{holds-kept, sound-append, most-append, holds-append}
 
 -- ---- an entry written
@@ -238,35 +238,35 @@ module _ (ids ends bytes : List ℕ) (words : Words ids) where
 -- ---- THEOREM: onto a sound log whose last stored id is last written, last written is the last stored id again
 
 module _ (ids ends bytes : List ℕ) (words : Words ids) (store : List ℕ) (st : State) (good : SoundStore store (st .length)) (last : LastStored (take (st .length) store) (st .last)) where
-  abbrev left : Done
-  left = pushOf store st ids ends bytes
+  abbrev pushed : Done
+  pushed = pushOf store st ids ends bytes
 
-  right : RightPush ids ends bytes left
-  right = push-right ids ends bytes words store st (stored-ready store st good last)
+  is-right : RightPush ids ends bytes pushed
+  is-right = push-right ids ends bytes words store st (last-stored-ready store st good last)
 
   -- no entry is counted: neither the log nor last written has moved
-  stored-still : left .answer .written ≡ 0 → LastStored (logAfter left) (left .answer .state .last)
+  last-still : pushed .answer .written ≡ 0 → LastStored (logAfter pushed) (pushed .answer .state .last)
   unfolding batchPages
-  stored-still e =
-      let n : left .answer .state .last ≡ st .last = rw e at (push-last store st ids ends bytes) in
-      let l : logAfter left ≡ take (st .length) store ++ [] = rw e at (push-grows store st ids ends bytes .log) in
+  last-still e =
+      let n : pushed .answer .state .last ≡ st .last = rw e at (push-last store st ids ends bytes) in
+      let l : logAfter pushed ≡ take (st .length) store ++ [] = rw e at (push-grows store st ids ends bytes .log) in
       rw (l, append-nil (take (st .length) store), n) last
 
   -- the last entry counted has the greatest id
-  stored-new : (m : ℕ) → left .answer .written ≡ suc m → LastStored (logAfter left) (left .answer .state .last)
-  stored-new m e =
-      let n : left .answer .state .last ≡ getD ids m 0 = rw e at (push-last store st ids ends bytes) in
-      let h = right .held m (omega arith) in
+  last-new : (m : ℕ) → pushed .answer .written ≡ suc m → LastStored (logAfter pushed) (pushed .answer .state .last)
+  last-new m e =
+      let n : pushed .answer .state .last ≡ getD ids m 0 = rw e at (push-last store st ids ends bytes) in
+      let h = is-right .held m (omega arith) in
       last-entry (h .page)
-      (greatest-last (logAfter left) (right .ready .good .sound) (h .page) (h .start) (λ q b. omega (arith, right .ready .under q b, n, h .has)))
+      (greatest-last (logAfter pushed) (is-right .ready .good .sound) (h .page) (h .start) (λ q b. omega (arith, is-right .ready .under q b, n, h .has)))
       (h .has ∙ sym n)
 
-  pub push-stored : LastStored (logAfter left) (left .answer .state .last)
-  push-stored = go (left .answer .written) refl
+  pub push-last-stored : LastStored (logAfter pushed) (pushed .answer .state .last)
+  push-last-stored = go (pushed .answer .written) refl
     where
-      go : (n : ℕ) → left .answer .written ≡ n → LastStored (logAfter left) (left .answer .state .last)
-      go zero e = stored-still e
-      go (suc m) e = stored-new m e
+      go : (n : ℕ) → pushed .answer .written ≡ n → LastStored (logAfter pushed) (pushed .answer .state .last)
+      go zero e = last-still e
+      go (suc m) e = last-new m e
 
 -- ---- THEOREM: a push that is not refused wrote every entry
 

@@ -1,5 +1,5 @@
 -- An entry that 3 or 4 refuses keeps its id: it can be pushed again, and is written once it is small enough and has room. Assumes nothing.
-use Prim.Native.Nat.{ℕ, zero, suc, _+_, _-_, _≤_, _<_}
+use Prim.Native.Nat.{ℕ, zero, suc, _-_, _≤_, _<_}
 use mathlib.Core.Path.{_≡_, ap, sym, _∙_}
 use mathlib.Core.Bool.{false}
 use mathlib.Core.Logic.{_⊎_, ⊎-elim}
@@ -12,10 +12,9 @@ use lib.Seq.{take-length}
 use Rattle.page.specs.Size.{dataEnd}
 use Rattle.log.specs.Bounds.{Good}
 use Rattle.log.specs.Round.{Round, follow}
-use Rattle.log.specs.State.{movedTo}
 use Rattle.log.specs.declared.state.State.{State}
 use Rattle.log.proofs.Laws.Bounds.{not-bad}
-use Rattle.pushing.specs.Push.{none, refused, pushing, entryData, some, badEnd, badBatch, largeData, someLarge, Point, point, bytesFor, wrote, Done, done, turn, entriesFrom, pushOf}
+use Rattle.pushing.specs.Push.{none, refused, entryData, some, badEnd, badBatch, largeData, someLarge, Point, point, bytesFor, wrote, Done, done, turn, entriesFrom, pushOf}
 use Rattle.pushing.proofs.Laws.Tests.{turn-large, turn-write, entries-in-turn}
 use Rattle.demands.specs.Push.{Push, idIn, outcome}
 use Rattle.demands.proofs.Push.Ways.{by-batch, by-turn}
@@ -95,13 +94,13 @@ module _ (store : List ℕ) (st : State) (id : ℕ) (d : List ℕ) where
     pub one-too-large : length d ≡ dataEnd → alone ≡ done (refused 3 0) 0 here
     one-too-large b = one-turn (omega arith) _ (turn-large 0 id d here a (omega arith))
 
-    pub one-written : length d < dataEnd → bytesFor d ≤ length store - st .length → alone .answer ≡ pushing none 1 (movedTo st (st .length + bytesFor d) id)
-    unfolding entriesFrom wrote
-    one-written b c = ap (λ (r : Done). r .answer) (one-turn (omega arith) _ (turn-write 0 id d here a b c))
+    pub one-written : length d < dataEnd → bytesFor d ≤ length store - st .length → alone ≡ done none 1 (wrote id d here)
+    unfolding entriesFrom
+    one-written b c = one-turn (omega arith) _ (turn-write 0 id d here a b c)
 
--- THEOREM: on any input what 3 or 4 refused is written by a push of it alone, with the state that the refused one left, given data that is not too large and a store, the same or another, with room
+-- THEOREM: on any input what 3 or 4 refused is written by a push of it alone from the state that the refused one left, given data that is not too large, and a store, the same or another, that is not refused 1 and has room
 pub tried-again : (q : Push) (number : ℕ) → (number ≡ 3) ⊎ (number ≡ 4) → outcome q .answer .reason ≡ refused number 0
     → (store d : List ℕ) → Good store (outcome q .answer .state .length) → length d < dataEnd → bytesFor d ≤ length store - outcome q .answer .state .length
-    → pushOf store (outcome q .answer .state) (idIn q (outcome q .answer .written) ∷ []) (length d ∷ []) d .answer
-    ≡ pushing none 1 (movedTo (outcome q .answer .state) (outcome q .answer .state .length + bytesFor d) (idIn q (outcome q .answer .written)))
+    → pushOf store (outcome q .answer .state) (idIn q (outcome q .answer .written) ∷ []) (length d ∷ []) d
+    ≡ done none 1 (wrote (idIn q (outcome q .answer .written)) d (point (outcome q .answer .state) store))
 tried-again q number which e store d g b c = one-written store (outcome q .answer .state) (idIn q (outcome q .answer .written)) d g (refused-keeps-id q number which e) b c
