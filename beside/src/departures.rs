@@ -1,7 +1,7 @@
 //! Why the Rust departs: each departure is an entry of docs/DIFFERENCES.md, told by its cause, not its answer alone.
 use nebari::transaction::log::probe::guess;
 
-use crate::{layout, rust::caught, Entry, Held, Looked, Pair, PAGE};
+use crate::{layout, rust::caught, Entry, Held, Looked, Pair, Push, PushedBy, State, PAGE, TOO_LARGE};
 
 /// An entry of docs/DIFFERENCES.md that explains a disagreement on the compared domain.
 #[derive(Clone, Copy, Debug, PartialEq, Eq, PartialOrd, Ord)]
@@ -11,6 +11,7 @@ pub enum Departure {
     FarApart,
     AbsentPosition,
     StaleFilling,
+    RefusedId,
     NoRoom,
     LowNote,
     WideNote,
@@ -19,12 +20,13 @@ pub enum Departure {
 }
 
 impl Departure {
-    pub const ALL: [Departure; 10] = [
+    pub const ALL: [Departure; 11] = [
         Departure::LaterPages,
         Departure::IdlePages,
         Departure::FarApart,
         Departure::AbsentPosition,
         Departure::StaleFilling,
+        Departure::RefusedId,
         Departure::NoRoom,
         Departure::LowNote,
         Departure::WideNote,
@@ -40,6 +42,7 @@ impl Departure {
             Departure::FarApart => "Ids far apart overflow the page product",
             Departure::AbsentPosition => "The position of an absent id",
             Departure::StaleFilling => "Bytes of an earlier page after the payload",
+            Departure::RefusedId => "The id of a refused entry",
             Departure::NoRoom => "A store has an end",
             Departure::LowNote => "An id noted below the start",
             Departure::WideNote => "An id noted outside the window",
@@ -135,6 +138,16 @@ pub fn of_scan(pair: &Pair, lower: Option<u64>, rust_panic: Option<&str>) -> Opt
 /// its page image was kept, so each byte of the filling is the one that the page before has at that place.
 pub fn of_written(written: &[Entry], rust: &[u8]) -> Option<Departure> {
     (rust == layout::stale(written)).then_some(Departure::StaleFilling)
+}
+
+/// The departure for a push to which the Rust's answer is not ours: both refuse the same entry with 3, after the same
+/// pages, and the Rust has the entry's id for last written, which it sets before it tests the size.
+pub fn of_push(push: &Push, ours: &PushedBy, rust: &PushedBy) -> Option<Departure> {
+    let (kept, refused) = (push.state_after(), push.refused()?);
+    let answer = |last: u64| PushedBy::Answered { number: 3, state: State { last, ..kept } };
+    let met_by_three = refused.id > kept.last && refused.data.len() == TOO_LARGE;
+    let departs = *ours == answer(kept.last) && *rust == answer(refused.id);
+    (met_by_three && departs).then_some(Departure::RefusedId)
 }
 
 /// A departure names its cause and nothing else: answers that no cause explains stay without a name.
@@ -242,5 +255,102 @@ mod tests {
         // The bytes that the Rust keeps are excused in the Rust's pages only.
         let said = said_of(|pair| pair.ours.store[..3_072].copy_from_slice(&pair.rust.file.bytes)).unwrap_err();
         assert!(said.starts_with("the library's pages"), "{said}");
+    }
+
+    const BEFORE: State = State { length: 1_024, last: 4, next: 12 };
+
+    fn batch_of<const N: usize>(entries: [(u64, usize); N]) -> [Entry; N] {
+        entries.map(|(id, length)| Entry { id, data: vec![0; length] })
+    }
+
+    fn answered(number: u64, length: u64, last: u64, next: u64) -> PushedBy {
+        PushedBy::Answered { number, state: State { length, last, next } }
+    }
+
+    /// Whether answers to a push of so many entries have a name.
+    fn named(batch: &[Entry], count: usize, ours: &PushedBy, rust: &PushedBy) -> bool {
+        of_push(&Push { before: BEFORE, batch, count }, ours, rust).is_some()
+    }
+
+    #[test]
+    fn any_other_answer_to_a_refused_entry_has_no_rule() {
+        // 6 is written, 8 is too large, 10 is not looked at.
+        let batch = batch_of([(6, 5), (8, TOO_LARGE), (10, 0)]);
+        let (ours, rust) = (answered(3, 2_048, 6, 12), answered(3, 2_048, 8, 12));
+        assert!(named(&batch, 1, &ours, &rust));
+        for number in 0..=16 {
+            for length in [0, 1_024, 2_048, 3_072] {
+                for next in [0, 11, 12, 13] {
+                    for last in 0..=12 {
+                        let other = answered(number, length, last, next);
+                        assert_eq!(named(&batch, 1, &ours, &other), other == rust, "the Rust {other:?}");
+                        assert_eq!(named(&batch, 1, &other, &rust), other == ours, "ours {other:?}");
+                        assert!(!named(&batch, 1, &other, &other), "both {other:?}");
+                    }
+                    let both = [6, 8].map(|last| answered(number, length, last, next));
+                    assert_eq!(named(&batch, 1, &both[0], &both[1]), both[0] == ours, "both {both:?}");
+                }
+            }
+        }
+        let panic = PushedBy::Panicked("transaction too large".into());
+        assert!(!named(&batch, 1, &ours, &panic) && !named(&batch, 1, &panic, &rust));
+    }
+
+    #[test]
+    fn a_refused_entry_at_another_place_has_no_rule() {
+        let batch = batch_of([(6, 5), (8, TOO_LARGE), (10, 0)]);
+        let (ours, rust) = (answered(3, 2_048, 6, 12), answered(3, 2_048, 8, 12));
+        for count in 0..=3 {
+            assert_eq!(named(&batch, count, &ours, &rust), count == 1, "{count} entries");
+        }
+        // Answers that fit the place, but the entry there is not one that 3 meets.
+        assert!(!named(&batch, 0, &answered(3, 1_024, 4, 12), &answered(3, 1_024, 6, 12)));
+        let length = 2_048 + 16_401 * 1_024;
+        assert!(!named(&batch, 2, &answered(3, length, 8, 12), &answered(3, length, 10, 12)));
+        for data in [0, TOO_LARGE - 1, TOO_LARGE + 1] {
+            assert!(!named(&batch_of([(6, 5), (8, data)]), 1, &ours, &rust), "{data} bytes");
+        }
+        // 2 comes before 3, so the refused id is above last written.
+        assert!(!named(&batch_of([(6, 5), (5, TOO_LARGE)]), 1, &ours, &answered(3, 2_048, 5, 12)));
+        assert!(!named(&batch_of([(4, TOO_LARGE)]), 0, &answered(3, 1_024, 4, 12), &answered(3, 1_024, 4, 12)));
+    }
+
+    #[test]
+    fn after_a_refused_entry_nothing_else_may_differ() {
+        let batch = batch_of([(5, 0), (6, TOO_LARGE)]);
+        // The Rust has other numbers than we have before the push.
+        let said_of = |change: &dyn Fn(&mut State)| {
+            let (mut pair, mut tally) = (dense_log(), Tally::default());
+            let mut state = pair.state();
+            change(&mut state);
+            pair.rust.set(state);
+            caught(|| pair.push(&batch, &mut tally)).map(|answer| (answer, pair.rust.numbers() == pair.state()))
+        };
+        // Afterwards it has ours again.
+        assert_eq!(said_of(&|_| ()), Ok((answered(3, 5_120, 6, 5), true)));
+        let changes: [&dyn Fn(&mut State); 4] =
+            [&|state| state.length += PAGE, &|state| state.next += 1, &|state| state.last = 5, &|state| state.last = 6];
+        for change in changes {
+            let said = said_of(change).unwrap_err();
+            assert!(said.starts_with("no departure names it"), "{said}");
+        }
+    }
+
+    /// That both sides say the same is not enough: our last written stays where the rules leave it.
+    #[test]
+    fn our_state_is_that_of_the_rules() {
+        let batch = batch_of([(6, 5), (8, TOO_LARGE)]);
+        let said_of = |ours: PushedBy, rust: PushedBy| {
+            let push = Push { before: BEFORE, batch: &batch, count: 1 };
+            caught(|| dense_log().compare_answers(&push, &ours, &rust, &mut Tally::default()))
+        };
+        let rust = answered(3, 2_048, 8, 12);
+        assert_eq!(said_of(answered(3, 2_048, 6, 12), rust.clone()), Ok(()));
+        for ours in [rust.clone(), answered(3, 2_048, 4, 12), answered(3, 1_024, 6, 12), answered(3, 2_048, 6, 13)] {
+            for rust in [&ours, &rust] {
+                let said = said_of(ours.clone(), rust.clone()).unwrap_err();
+                assert!(said.contains("the library's state"), "{said}");
+            }
+        }
     }
 }

@@ -13,6 +13,11 @@ pub fn fronts(id: u64, data: &[u8]) -> Vec<Vec<u8>> {
     iter::once(start).chain(rest.chunks(1_023).map(|part| [&[0], part].concat())).collect()
 }
 
+/// How many pages an entry takes.
+pub fn count(entry: &Entry) -> u64 {
+    fronts(entry.id, &entry.data).len() as u64
+}
+
 /// The pages of a push's entries: each front is put over a page of zeros.
 pub fn clean(written: &[Entry]) -> Vec<u8> {
     pages(written, false)

@@ -21,6 +21,9 @@ pub use tally::Tally;
 
 pub const PAGE: u64 = 1024;
 
+/// Bytes of data that refusal 3 meets: with the id they are 2^24. One less is written, one more is refused with 16.
+pub const TOO_LARGE: usize = (1 << 24) - 8;
+
 /// An entry to push.
 #[derive(Clone, Debug, PartialEq, Eq)]
 pub struct Entry {
@@ -59,6 +62,35 @@ pub enum Scanned {
     Entries(Vec<(u64, Vec<u8>)>),
     Refused(String),
     Panicked(String),
+}
+
+/// A push: the state that it found, its batch, and how many of the entries it wrote.
+#[derive(Clone, Copy)]
+pub struct Push<'a> {
+    pub before: State,
+    pub batch: &'a [Entry],
+    pub count: usize,
+}
+
+impl<'a> Push<'a> {
+    pub fn written(&self) -> &'a [Entry] {
+        &self.batch[..self.count]
+    }
+
+    /// The entry that a refusal met, if the batch goes on after the written ones.
+    pub fn refused(&self) -> Option<&'a Entry> {
+        self.batch.get(self.count)
+    }
+
+    /// What the rules say of the state: length and last written move by the written entries alone (docs/RULES.md 4.3).
+    pub fn state_after(&self) -> State {
+        let pages: u64 = self.written().iter().map(layout::count).sum();
+        State {
+            length: self.before.length + pages * PAGE,
+            last: self.written().last().map_or(self.before.last, |entry| entry.id),
+            next: self.before.next,
+        }
+    }
 }
 
 /// What a push did, on either side: 0 or the refusal's number, and the state after it.

@@ -4,7 +4,7 @@ use std::ops::{Bound, RangeBounds};
 use awirbesh::lent;
 
 use crate::{departures, layout, ours::Ours, rust::Rust};
-use crate::{Departure, Entry, Held, Ids, Looked, PushedBy, RecoveredBy, Scanned, State, Tally, PAGE};
+use crate::{Departure, Entry, Held, Ids, Looked, Push, PushedBy, RecoveredBy, Scanned, State, Tally, PAGE};
 
 pub struct Pair {
     pub ours: Ours,
@@ -71,11 +71,13 @@ impl Pair {
     /// Pushes a batch on both sides and compares the refusal, the count, the state and every byte; the Rust's answer.
     pub fn push(&mut self, batch: &[Entry], tally: &mut Tally) -> PushedBy {
         let (store, file) = (self.ours.store.clone(), self.rust.file.bytes.clone());
-        let from = self.ours.state.length as usize;
-        let (by_ours, written) = self.ours.push(batch);
+        let before = self.ours.state;
+        let from = before.length as usize;
+        let (by_ours, count) = self.ours.push(batch);
         let by_rust = self.rust.push(batch);
-        assert_eq!(by_ours, by_rust, "push of {:?} to {}", ids_of(batch), self.words());
-        let written = &batch[..written as usize];
+        let push = Push { before, batch, count: count as usize };
+        self.compare_answers(&push, &by_ours, &by_rust, tally);
+        let written = push.written();
         self.compare_written(written, from, tally);
         self.assert_kept(&store, from);
         assert!(self.rust.file.bytes[..from] == file, "bytes of the Rust's log changed");
@@ -83,6 +85,26 @@ impl Pair {
         self.hold_written(written, from);
         tally.compared("pushes");
         by_rust
+    }
+
+    /// Compares what the two sides answered to a push: ours must have the state of the rules, and the Rust's must be
+    /// ours or depart by a name. Then the Rust gets our state, so that what follows is compared again.
+    pub fn compare_answers(&self, push: &Push, by_ours: &PushedBy, by_rust: &PushedBy, tally: &mut Tally) {
+        let input = || format!("push of {:?}, last written {}", ids_of(push.batch), push.before.last);
+        let truth = push.state_after();
+        let PushedBy::Answered { state, .. } = by_ours else { panic!("{by_ours:?}") };
+        assert_eq!(*state, truth, "the library's state after a {}", input());
+        if by_rust == by_ours {
+            return;
+        }
+        match departures::of_push(push, by_ours, by_rust) {
+            Some(departure) => {
+                let data = push.batch.iter().map(|entry| entry.data.len() as u64).sum();
+                tally.name(departure, (push.batch.len() as u64, data, push.before.last), input);
+                self.rust.set(truth);
+            }
+            None => panic!("no departure names it: {}: the Rust {by_rust:?}, ours {by_ours:?}", input()),
+        }
     }
 
     /// Compares the pages that a push has added from a place on: ours, all of them, and as many of the Rust's.
@@ -115,7 +137,7 @@ impl Pair {
     fn hold_written(&mut self, written: &[Entry], from: usize) {
         let mut page = from as u64 / PAGE;
         for entry in written {
-            let pages = layout::fronts(entry.id, &entry.data).len() as u64;
+            let pages = layout::count(entry);
             self.walk_back.extend((0..pages).map(|_| self.held.len()));
             self.held.push(Held { id: entry.id, page, pages, data: entry.data.clone() });
             page += pages;
@@ -233,19 +255,36 @@ impl Pair {
     }
 
     /// Pushes what does not fit into the store: the library refuses 4 there, and the Rust, whose file has no end,
-    /// goes on. Up to that entry the two agree.
+    /// goes on. Up to that entry the two agree; then the Rust is set back to it, and what follows is compared again.
     pub fn compare_without_room(&mut self, batch: &[Entry], tally: &mut Tally) {
-        let (store, from) = (self.ours.store.clone(), self.ours.state.length as usize);
-        let (by_ours, written) = self.ours.push(batch);
-        let PushedBy::Answered { number: 4, state } = by_ours else { panic!("not refused with 4: {by_ours:?}") };
+        let (store, file) = (self.ours.store.clone(), self.rust.file.bytes.clone());
+        let before = self.ours.state;
+        let from = before.length as usize;
+        let (by_ours, count) = self.ours.push(batch);
         let by_rust = self.rust.push(batch);
-        assert!(matches!(by_rust, PushedBy::Answered { number: 0, .. }), "{by_rust:?}");
-        self.compare_written(&batch[..written as usize], from, tally);
+        let push = Push { before, batch, count: count as usize };
+        assert_eq!(by_ours, PushedBy::Answered { number: 4, state: push.state_after() });
+        assert!(push.refused().is_some_and(|entry| !self.has_room_for(entry)), "4 where there is room");
+        let whole = Push { count: batch.len(), ..push };
+        assert_eq!(by_rust, PushedBy::Answered { number: 0, state: whole.state_after() });
+        self.compare_written(push.written(), from, tally);
         self.assert_kept(&store, from);
-        assert_eq!(state.last, batch[written as usize].id, "4 uses up the id");
+        assert!(self.rust.file.bytes[..from] == file, "bytes of the Rust's log changed");
+        self.set_rust_back();
+        self.hold_written(push.written(), from);
         tally.compared("pushes without room");
         let input = || format!("a store of {} bytes, push of {:?}", self.ours.store.len(), ids_of(batch));
         tally.name(Departure::NoRoom, (self.ours.store.len() as u64, batch.len() as u64, 0), input);
+    }
+
+    fn has_room_for(&self, entry: &Entry) -> bool {
+        layout::count(entry) * PAGE <= self.ours.store.len() as u64 - self.ours.state.length
+    }
+
+    /// Cuts the Rust's file to our length and gives it our state.
+    fn set_rust_back(&mut self) {
+        self.rust.file.bytes.truncate(self.ours.state.length as usize);
+        self.rust.set(self.ours.state);
     }
 }
 

@@ -1,6 +1,6 @@
 //! Each entry of docs/DIFFERENCES.md at its smallest input: what the Rust does in this build, and what we do.
 use awirbesh::{lent, IdSequence, Look, Refusal, State};
-use beside::{ours, rust, Departure, Entry, Looked, Pair, PushedBy, RecoveredBy, Scanned, Tally, PAGE};
+use beside::{ours, rust, Departure, Entry, Looked, Pair, PushedBy, RecoveredBy, Scanned, Tally, PAGE, TOO_LARGE};
 use nebari::transaction::{manager::probe::Sequence, state::probe};
 
 const CHECKED: bool = cfg!(debug_assertions);
@@ -132,6 +132,44 @@ fn bytes_of_an_earlier_page_after_the_payload() {
     assert_eq!(rust[1_024..], [&[0, 0x61, 0x03, 0xFD, 0, 0, 0, 0, 0, 0, 0, 1][..], &[0x61; 1_012]].concat());
 }
 
+/// The Rust sets last written to an entry's id before it tests the size; by the rules a refused entry keeps its id.
+#[test]
+fn the_id_of_a_refused_entry() {
+    let entry = |id: u64, length: usize| [Entry { id, data: vec![0x61; length] }];
+    let (large, small) = (entry(1, TOO_LARGE), entry(1, 0));
+    let answered = |number: u64, length: u64, last: u64| {
+        let state = State { length, last, next: 1 };
+        PushedBy::Answered { number, state }
+    };
+
+    // Each side alone: the same id with no data is written here, and out of order there.
+    let mut pair = Pair::with_capacity(1);
+    assert_eq!(pair.ours.push(&large), (answered(3, 0, 0), 0));
+    assert_eq!(pair.rust.push(&large), answered(3, 0, 1));
+    assert_eq!(pair.ours.push(&small), (answered(0, PAGE, 1), 1));
+    assert_eq!(pair.rust.push(&small), answered(2, 0, 1));
+    assert!(pair.rust.file.bytes.is_empty());
+
+    // Compared: it has its name, the Rust gets our state, and then both write the entry.
+    let (mut pair, mut tally) = (Pair::with_capacity(1), Tally::default());
+    assert_eq!(pair.push(&large, &mut tally), answered(3, 0, 1));
+    assert_eq!(tally.smallest(Departure::RefusedId), "push of [(1, 16777208)], last written 0");
+    assert_eq!(pair.push(&small, &mut tally), answered(0, PAGE, 1));
+    assert_eq!(tally.times(Departure::RefusedId), 1);
+    pair.set_next(2);
+    pair.assert_in_domain();
+    assert!(found(&pair, 1));
+    pair.compare_lookup(1, &mut tally);
+
+    // Nothing smaller shows it: a byte less is written, and id 0 is refused with 2. Nor does a byte more, which is 16.
+    for (id, length, number) in [(1, TOO_LARGE - 1, 0), (0, TOO_LARGE, 2), (1, TOO_LARGE + 1, 16)] {
+        let (mut pair, mut tally) = (Pair::with_capacity(16_401), Tally::default());
+        let answer = pair.push(&entry(id, length), &mut tally);
+        assert!(matches!(answer, PushedBy::Answered { number: met, .. } if met == number), "{answer:?}");
+        assert_eq!(tally.times(Departure::RefusedId), 0);
+    }
+}
+
 #[test]
 fn a_log_under_one_page() {
     assert_eq!(ours::recover(&[1]), RecoveredBy::At { state: State { length: 0, last: 0, next: 1 }, file: 0 });
@@ -192,10 +230,19 @@ fn a_note_outside_the_window() {
 fn a_store_has_an_end() {
     let mut pair = Pair::with_capacity(0);
     let entry = [Entry { id: 1, data: Vec::new() }];
-    let state = State { length: 0, last: 1, next: 1 };
-    assert_eq!(pair.ours.push(&entry), (PushedBy::Answered { number: 4, state }, 0));
-    let state = State { length: PAGE, last: 1, next: 1 };
-    assert_eq!(pair.rust.push(&entry), PushedBy::Answered { number: 0, state });
+    let fresh = State { length: 0, last: 0, next: 1 };
+    assert_eq!(pair.ours.push(&entry), (PushedBy::Answered { number: 4, state: fresh }, 0));
+    let written = PushedBy::Answered { number: 0, state: State { length: PAGE, last: 1, next: 1 } };
+    assert_eq!(pair.rust.push(&entry), written);
+    // The id is kept: where there is room it is written.
+    pair.ours.store.resize(PAGE as usize, 0xEE);
+    assert_eq!(pair.ours.push(&entry), (written, 1));
+    assert_eq!(pair.ours.bytes(), pair.rust.file.bytes);
+
+    let (mut pair, mut tally) = (Pair::with_capacity(0), Tally::default());
+    pair.compare_without_room(&entry, &mut tally);
+    assert_eq!(tally.smallest(Departure::NoRoom), "a store of 0 bytes, push of [(1, 0)]");
+    assert_eq!((pair.state(), pair.rust.numbers()), (fresh, fresh));
 }
 
 /// Damaged logs: the Rust panics, fails or answers by bytes that are no entry; the library refuses.

@@ -2,7 +2,7 @@
 //! there are and which.
 use std::ops::Bound;
 
-use beside::{chance::Chance, Departure, Entry, Ids, Pair, Tally};
+use beside::{chance::Chance, Departure, Entry, Ids, Pair, PushedBy, Tally, TOO_LARGE};
 
 fn setting(name: &str, usual: u64) -> u64 {
     std::env::var(name).map_or(usual, |text| text.parse().expect(name))
@@ -207,27 +207,83 @@ fn payloads_about_each_boundary() {
     assert_eq!(tally.times(Departure::StaleFilling), tally.compared["pushes"]);
 }
 
-/// Data about 2^24 - 8 bytes: refusals 3 and 16, the id that 3 uses up, and the longest entry that there is.
+/// 0 or the number of the refusal.
+fn number_of(answer: &PushedBy) -> u64 {
+    match answer {
+        PushedBy::Answered { number, .. } => *number,
+        PushedBy::Panicked(text) => panic!("{text}"),
+    }
+}
+
+/// Data about 2^24 - 8 bytes: refusals 3 and 16, the id that 3 leaves free, and the longest entry that there is.
 #[test]
 fn the_largest_data() {
     let mut tally = Tally::default();
     let mut pair = Pair::with_capacity(16_410);
     let mut chance = Chance::new(3);
-    let bytes = chance.bytes(16_777_209);
-    let entry = |id: u64, length: usize| Entry { id, data: bytes[..length].to_vec() };
-    pair.push(&[entry(6, 5)], &mut tally);
-    pair.push(&[entry(7, 16_777_208)], &mut tally);
-    assert_eq!((pair.state().length, pair.state().last), (1_024, 7));
-    pair.push(&[entry(7, 0)], &mut tally);
-    pair.push(&[entry(8, 16_777_209)], &mut tally);
-    assert_eq!((pair.state().length, pair.state().last), (1_024, 7));
-    pair.push(&[entry(9, 16_777_207)], &mut tally);
-    assert_eq!(pair.pages(), 16_402);
+    let bytes = chance.bytes(TOO_LARGE + 1);
+    // The refusal, and length and last written after it.
+    let mut push = |id: u64, length: usize| {
+        let batch = [Entry { id, data: bytes[..length].to_vec() }];
+        let number = number_of(&pair.push(&batch, &mut tally));
+        (number, pair.state().length, pair.state().last)
+    };
+    assert_eq!(push(6, 5), (0, 1_024, 6));
+    assert_eq!(push(7, TOO_LARGE), (3, 1_024, 6));
+    assert_eq!(push(7, TOO_LARGE + 1), (16, 1_024, 6));
+    assert_eq!(push(7, TOO_LARGE), (3, 1_024, 6));
+    assert_eq!(push(7, 0), (0, 2_048, 7));
+    assert_eq!(push(7, 0), (2, 2_048, 7));
+    assert_eq!(push(7, TOO_LARGE), (2, 2_048, 7));
+    assert_eq!(push(8, TOO_LARGE + 1), (16, 2_048, 7));
+    assert_eq!(push(9, TOO_LARGE), (3, 2_048, 7));
+    assert_eq!(push(9, TOO_LARGE - 1), (0, 16_403 * 1_024, 9));
+    assert_eq!(tally.times(Departure::RefusedId), 3);
     pair.set_next(10);
     for id in 6..10 {
         pair.compare_lookup(id, &mut tally);
     }
     pair.compare_recovery(&[], &mut tally);
+}
+
+/// A log by a batch in which 3 refuses the entry at a place, and then by the rest of it with less data there.
+fn log_after_a_refusal(first: u64, length: usize, place: usize, tally: &mut Tally) -> Pair {
+    let mut pair = Pair::with_capacity(6);
+    pair.ours.state.last = first - 1;
+    pair.set_next(first + 3 * length as u64);
+    let entry = |at: usize| Entry { id: first + 3 * at as u64, data: vec![0x41; [1_013, 506][at % 2]] };
+    let mut batch: Vec<Entry> = (0..length).map(entry).collect();
+    let less = std::mem::replace(&mut batch[place].data, vec![0x4C; TOO_LARGE]);
+    pair.push(&batch, tally);
+    // What stands before it is written, and last written is the last id of that.
+    let last = batch[..place].last().map_or(first - 1, |entry| entry.id);
+    assert_eq!((pair.held.len(), pair.state().last), (place, last));
+    // That id is out of order, on both sides again.
+    assert_eq!(number_of(&pair.push(&[Entry { id: last, data: Vec::new() }], tally)), 2);
+    batch[place].data = less;
+    assert_eq!(number_of(&pair.push(&batch[place..], tally)), 0);
+    assert_eq!(pair.held.len(), length);
+    pair
+}
+
+/// An entry that 3 refuses at each place of a batch of up to four, from several last written; then with less data.
+#[test]
+fn a_refused_entry_at_each_place() {
+    let mut tally = Tally::default();
+    for first in [1, 2, 1_000] {
+        for (length, place) in (1..=4).flat_map(|length| (0..length).map(move |place| (length, place))) {
+            let mut pair = log_after_a_refusal(first, length, place, &mut tally);
+            pair.assert_in_domain();
+            for id in first - 1..=pair.state().next {
+                pair.compare_lookup(id, &mut tally);
+            }
+            pair.compare_scan((Bound::Unbounded, Bound::Unbounded), &mut tally);
+            pair.compare_recovery(&[1], &mut tally);
+            tally.compared("logs");
+        }
+    }
+    tally.print("a refused entry at each place");
+    assert_eq!(tally.times(Departure::RefusedId), tally.compared["logs"]);
 }
 
 #[test]
@@ -236,11 +292,30 @@ fn a_store_without_room() {
     let mut pair = Pair::with_capacity(2);
     let entry = |id: u64, length: usize| Entry { id, data: vec![id as u8; length] };
     pair.compare_without_room(&[entry(1, 5), entry(2, 1_013), entry(3, 0)], &mut tally);
-    assert_eq!((pair.state().length, pair.state().last), (1_024, 2));
+    assert_eq!((pair.state().length, pair.state().last), (1_024, 1));
     assert_eq!((tally.times(Departure::NoRoom), tally.times(Departure::StaleFilling)), (1, 0));
+    // The refused id with less data is written.
+    pair.push(&[entry(2, 1_012)], &mut tally);
+    assert_eq!((pair.state().length, pair.state().last), (2_048, 2));
     // An entry before the refused one keeps bytes of the one before it.
     let mut pair = Pair::with_capacity(3);
     pair.compare_without_room(&[entry(1, 5), entry(2, 0), entry(3, 1_013)], &mut tally);
-    assert_eq!((pair.state().length, pair.state().last), (2_048, 3));
+    assert_eq!((pair.state().length, pair.state().last), (2_048, 2));
     assert_eq!((tally.times(Departure::NoRoom), tally.times(Departure::StaleFilling)), (2, 1));
+    // The same entry is refused again in the same store, and written in a longer one.
+    pair.compare_without_room(&[entry(3, 1_013)], &mut tally);
+    assert_eq!((pair.state().length, pair.state().last), (2_048, 2));
+    pair.ours.store.resize(4_096, 0xEE);
+    pair.push(&[entry(3, 1_013)], &mut tally);
+    assert_eq!((pair.state().length, pair.state().last), (4_096, 3));
+    // 3 comes before 4: no room is asked of an entry that is too large.
+    pair.push(&[entry(4, TOO_LARGE)], &mut tally);
+    assert_eq!((pair.state().length, pair.state().last), (4_096, 3));
+    assert_eq!((tally.times(Departure::NoRoom), tally.times(Departure::RefusedId)), (3, 1));
+    pair.set_next(4);
+    pair.assert_in_domain();
+    for id in 0..=5 {
+        pair.compare_lookup(id, &mut tally);
+    }
+    pair.compare_recovery(&[1], &mut tally);
 }
