@@ -38,7 +38,7 @@ logOf w = take (w .state .length) (w .store)
 abbrev pub Words : List ℕ → Type 0
 Words ids = (k : ℕ) → getD ids k 0 < 2 ^ 64
 
--- any push, take, find, lookup, scan, step or recovery at the log's length: any batch, id, range, cursor and output; and any bytes that make the store longer
+-- any push, take, find, lookup, scan, step or recovery at the log's length: any batch, id, range, cursor and output; and another store, with any bytes after the log
 pub data Call : Type 0 where
   push : (ids ends bytes : List ℕ) → Words ids → Call
   take-id : Call
@@ -47,7 +47,7 @@ pub data Call : Type 0 where
   scan : (range : Range) → Call
   step-on : (range : Range) (cursor : ℕ) (out : List ℕ) → Call
   recover : Call
-  lengthen : (more : List ℕ) → Call
+  lend : (rest : List ℕ) → Call
 
 -- what a call answers, and what it leaves in what it is lent, by the definitions that the functions' contracts cite
 pub data Answer : Type 0 where
@@ -60,9 +60,9 @@ pub data Answer : Type 0 where
   restored : Recovering → Answer
   lent : List ℕ → Answer
 
--- a longer store, its first bytes as they were; one that would be refused 1 is not gone on with
-unfoldable pub longer : World → List ℕ → List ℕ
-longer w more = pick (tooLong (w .store ++ more) (w .state .length)) (w .store) (w .store ++ more)
+-- another store that begins with the log; one that is refused 1 is not gone on with
+unfoldable pub anotherStore : World → List ℕ → List ℕ
+anotherStore w rest = pick (tooLong (logOf w ++ rest) (w .state .length)) (w .store) (logOf w ++ rest)
 
 unfoldable pub answer : World → Call → Answer
 answer w (push ids ends bytes words) = pushed (pushOf (w .store) (w .state) ids ends bytes)
@@ -72,7 +72,7 @@ answer w (lookup id out) = looked-up (lookupOf (w .store) (w .state) id out)
 answer w (scan range) = scan-began (scanOf (w .store) (w .state) range)
 answer w (step-on range cursor out) = stepped (stepOf (w .store) (w .state) range cursor out)
 answer w recover = restored (recoverOf (w .store) (w .state .length))
-answer w (lengthen more) = lent (longer w more)
+answer w (lend rest) = lent (anotherStore w rest)
 
 -- the state after an id was asked for: 3.2 "a refusal leaves the state"
 abbrev pub stateAfterTake : State → Taking → State
@@ -84,7 +84,7 @@ abbrev pub stateAfterRecovery : State → Recovering → State
 stateAfterRecovery st (recovered state excess) = state
 stateAfterRecovery st (unrecovered number value) = st
 
--- the world after an answer: a push leaves a store and a state, taking and recovering a state, making it longer a store; a lookup and a scan are lent the store to read alone
+-- the world after an answer: a push leaves a store and a state, taking and recovering a state, lending another one a store; a lookup and a scan are lent the store to read alone
 abbrev pub after : World → Answer → World
 after w (pushed r) = world (r .store) (r .answer .state)
 after w (handed-out r) = world (w .store) (stateAfterTake (w .state) r)
@@ -161,7 +161,7 @@ Gives (lookup i out) r id s d = i ≡ id → length d ≤ length out → LooksUp
 Gives (scan range) r id s d = Unit {0}
 Gives (step-on range cursor out) r id s d = Unit {0}
 Gives recover r id s d = Unit {0}
-Gives (lengthen more) r id s d = Unit {0}
+Gives (lend rest) r id s d = Unit {0}
 
 -- and so does every call that is made now
 abbrev pub Answers : World → ℕ → Standing → List ℕ → Type 0

@@ -7,7 +7,7 @@
 --   settled-by-stored, settled-in-words       3 is settled by the last entry stored too, and stays so: three-settled, three-stays-settled
 --   refused-keeps-id, tried-again             4 is refused for room, and written with less data, and in a longer store: four-refused, four-with-less, four-with-room;
 --                                             7 is refused with 16,777,208 bytes, and written with fewer: seven-refused, seven-written, seven-there
---   last-is-stored, push-last-stored          4 is the last id stored, after it was refused and the store made longer; and 5: four-is-last, five-is-last
+--   last-is-stored, push-last-stored          4 is the last id stored, after it was refused and a longer store lent; and 5: four-is-last, five-is-last
 --   push-right, push-whole                    5 is pushed: five-is-held, all-written
 --   pages-alone, earlier-hidden               5 after 9, 9, 9 over 255s, by itself after that log, after 6: five-alike, nines-hidden
 --   filling-written                           of its second page, over 255s: five-filled
@@ -48,7 +48,7 @@ use Rattle.scanning.specs.Step.{stepStart, stepPage, forward, forwardFrom, step
 use Rattle.log.specs.declared.state.State.{State}
 use Rattle.scanning.specs.declared.Range.{Range}
 use Rattle.scanning.specs.declared.End.the-variants.{Open}
-use Rattle.demands.specs.History.{World, world, logOf, Words, Call, push, take-id, find, lookup, lengthen, longer, answer, step, run, said, Begun, Settled, SettledByStored, LooksUp, Gives, Answers, ReadsBack}
+use Rattle.demands.specs.History.{World, world, logOf, Words, Call, push, take-id, find, lookup, lend, anotherStore, answer, step, run, said, Begun, Settled, SettledByStored, LooksUp, Gives, Answers, ReadsBack}
 use Rattle.page.proofs.Runs.{data-one-part}
 use Rattle.demands.proofs.Check.Passing.{checked-sound}
 use Rattle.demands.proofs.Push.Batch.{push-right, push-last-stored, push-whole}
@@ -259,10 +259,10 @@ pub four-with-room : pushOf (store ++ page-more) taken-four (4 ∷ []) (2036 ∷
 unfolding pagesFor bytesOf filled firstPage laterPage laterPages entryPages tooLong badState entryData some badEnd badBatch largeData someLarge wrote turn entriesFrom pushOf
 four-with-room = tried-again refused-four 4 (inr refl) refl (store ++ page-more) much good-longer (lit< tt) (lit≤ tt)
 
--- in a history: refused, the store made longer, the same push
-pub four-is-last : LastStored (logOf (run begins (take-id ∷ pushes-four much ∷ lengthen page-more ∷ pushes-four much ∷ []))) 4
-unfolding pagesFor bytesOf filled firstPage laterPage laterPages entryPages tooLong badState takeOf entryData some badEnd badBatch largeData someLarge wrote turn entriesFrom pushOf longer answer step run
-four-is-last = last-is-stored begins begins-there (take-id ∷ pushes-four much ∷ lengthen page-more ∷ pushes-four much ∷ [])
+-- in a history: refused, another store lent with a page more, the same push
+pub four-is-last : LastStored (logOf (run begins (take-id ∷ pushes-four much ∷ lend (replicate 3072 0) ∷ pushes-four much ∷ []))) 4
+unfolding pagesFor bytesOf filled firstPage laterPage laterPages entryPages tooLong badState takeOf entryData some badEnd badBatch largeData someLarge wrote turn entriesFrom pushOf anotherStore answer step run
+four-is-last = last-is-stored begins begins-there (take-id ∷ pushes-four much ∷ lend (replicate 3072 0) ∷ pushes-four much ∷ [])
 
 pub five-is-last : LastStored (logAfter (pushOf store (begins .state) (5 ∷ []) (1 ∷ []) (8 ∷ []))) 5
 unfolding pagesFor bytesOf filled firstPage laterPage laterPages entryPages tooLong badState entryData some badEnd badBatch largeData someLarge wrote turn entriesFrom pushOf

@@ -6,7 +6,7 @@ use mathlib.Core.List.{List, [], _∷_, _++_, append-assoc, append-nil}
 use native.Mathlib.Omega.{arith}
 use lib.Dec.{eqb}
 use lib.ListN.{take}
-use lib.Seq.{take-append-le}
+use lib.Seq.{take-at}
 use Rattle.refusal.specs.Pick.{pick}
 use Rattle.log.specs.Bounds.{tooLong}
 use Rattle.log.specs.State.{taken, refused as untaken, stateOf, topId, takeOf}
@@ -17,7 +17,7 @@ use Rattle.log.proofs.Laws.Bounds.{fitting}
 use Rattle.demands.specs.Sound.{SoundStore, LastStored}
 use Rattle.demands.specs.Push.{batchPages}
 use Rattle.demands.specs.Recovery.{RightRecovery}
-use Rattle.demands.specs.History.{World, world, logOf, Words, Call, push, take-id, find, lookup, scan, step-on, recover, lengthen, longer, answer, stateAfterTake, stateAfterRecovery, step, run, Settled}
+use Rattle.demands.specs.History.{World, world, logOf, Words, Call, push, take-id, find, lookup, scan, step-on, recover, lend, anotherStore, answer, stateAfterTake, stateAfterRecovery, step, run, Settled}
 use Rattle.demands.proofs.Sound.{sound-good, sound-length}
 use Rattle.demands.proofs.Last.{last-stored-unique, last-stored-rises, last-stored-ready}
 use Rattle.demands.proofs.Push.Batch.{push-grows, push-right, push-last-stored}
@@ -98,16 +98,16 @@ module _ (w : World) (i : Lives w) where
       let e = uncut (w .store) (w .state .length) (sound-good (i .good) .whole) in
       rw e at (recover-right (w .store) (w .state .length) (i .good .fits) (rw e (i .good .sound)))
 
-  moved-longer : (more : List ℕ) → Moved w (world (longer w more) (w .state))
-  unfolding longer
-  moved-longer more = go (tooLong (w .store ++ more) (w .state .length)) refl
+  moved-lent : (rest : List ℕ) → Moved w (world (anotherStore w rest) (w .state))
+  unfolding anotherStore
+  moved-lent rest = go (tooLong (logOf w ++ rest) (w .state .length)) refl
     where
-      go : (t : Bool) → tooLong (w .store ++ more) (w .state .length) ≡ t → Moved w (world (pick t (w .store) (w .store ++ more)) (w .state))
+      go : (t : Bool) → tooLong (logOf w ++ rest) (w .state .length) ≡ t → Moved w (world (pick t (w .store) (logOf w ++ rest)) (w .state))
       go true e = moved-none w i
       go false e =
-          let same : take (w .state .length) (w .store ++ more) ≡ logOf w = take-append-le (w .state .length) (w .store) more (i .good .fits .inside) in
+          let same : take (w .state .length) (logOf w ++ rest) ≡ logOf w = take-at (logOf w) rest (w .state .length) (sound-length (i .good)) in
           record {
-            lives = record { good = record { fits = fitting (w .store ++ more) (w .state .length) e; sound = rw same (i .good .sound) }; last = rw same (i .last) };
+            lives = record { good = record { fits = fitting (logOf w ++ rest) (w .state .length) e; sound = rw same (i .good .sound) }; last = rw same (i .last) };
             grows = record { more = []; is = same ∙ sym (append-nil (logOf w)) };
             settled = λ id h. record { some = h .some; most = h .most; below = h .below };
           }
@@ -121,7 +121,7 @@ module _ (w : World) (i : Lives w) where
   moved (scan range) = moved-none w i
   moved (step-on range cursor out) = moved-none w i
   moved recover = moved-recovery (excessOf (w .state .length)) _ recovery-right
-  moved (lengthen more) = moved-longer more
+  moved (lend rest) = moved-lent rest
 
 pub moved-run : (w : World) (cs : List Call) → Lives w → Moved w (run w cs)
 unfolding run
