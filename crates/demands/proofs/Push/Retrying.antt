@@ -19,7 +19,7 @@ use Rattle.pushing.proofs.Laws.Tests.{turn-large, turn-write, entries-in-turn}
 use Rattle.demands.specs.Push.{Push, idIn, outcome}
 use Rattle.demands.proofs.Push.Ways.{by-batch, by-turn}
 
--- ---- the id of the entry that 3 or 4 refuses is above last written
+-- ---- the refused id
 
 -- shut, so that antt sees which push it is asked of
 KeepsId : List ℕ → Done → Type 0
@@ -55,7 +55,7 @@ module _ (ids ends bytes : List ℕ) where
       (other 16 0 (point st store) (λ e. omega arith) (λ e. omega arith))
       (λ l. keeps-from (length ids) 0 (point st store))
 
--- THEOREM: on any input
+-- THEOREM: on any input the id of the entry that 3 or 4 refuses is above last written
 pub refused-keeps-id : (q : Push) (number : ℕ) → (number ≡ 3) ⊎ (number ≡ 4) → outcome q .answer .reason ≡ refused number 0
     → outcome q .answer .state .last < idIn q (outcome q .answer .written)
 unfolding KeepsId
@@ -84,7 +84,7 @@ module _ (store : List ℕ) (st : State) (id : ℕ) (d : List ℕ) where
     abbrev here : Point
     here = point st store
 
-    -- what its turn comes to is what the push comes to
+    -- the push comes to what its turn comes to
     one-turn : length d ≤ dataEnd → (r : Round Done Point) → turn 0 id d here ≡ r → alone ≡ follow (entriesFrom (id ∷ []) (length d ∷ []) d 0 1) r
     unfolding entriesFrom
     one-turn b r e =
@@ -94,11 +94,12 @@ module _ (store : List ℕ) (st : State) (id : ℕ) (d : List ℕ) where
     pub one-too-large : length d ≡ dataEnd → alone ≡ done (refused 3 0) 0 here
     one-too-large b = one-turn (omega arith) _ (turn-large 0 id d here a (omega arith))
 
-    pub one-written : length d < dataEnd → bytesFor d ≤ length store - st .length → alone ≡ done none 1 (wrote id d here)
+    one-written : length d < dataEnd → bytesFor d ≤ length store - st .length → alone ≡ done none 1 (wrote id d here)
     unfolding entriesFrom
     one-written b c = one-turn (omega arith) _ (turn-write 0 id d here a b c)
 
--- THEOREM: on any input what 3 or 4 refused is written by a push of it alone from the state that the refused one left, given data that is not too large, and a store, the same or another, that is not refused 1 and has room
+-- THEOREM: on any input what 3 or 4 refused is written by a push of it alone, from the state that the refused push left, given data that is not too large
+-- and a store, the same or another, that is not refused 1 and has room
 pub tried-again : (q : Push) (number : ℕ) → (number ≡ 3) ⊎ (number ≡ 4) → outcome q .answer .reason ≡ refused number 0
     → (store d : List ℕ) → Good store (outcome q .answer .state .length) → length d < dataEnd → bytesFor d ≤ length store - outcome q .answer .state .length
     → pushOf store (outcome q .answer .state) (idIn q (outcome q .answer .written) ∷ []) (length d ∷ []) d
