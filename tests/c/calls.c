@@ -282,7 +282,8 @@ static void no_old_bytes_in_the_filling(void)
 
 /* ---- order, size and room; an entry that 3 or 4 refuses keeps its id ---- */
 
-/* The longest data that 16 lets through, one byte too many for an entry; a program of the library's own has no room. */
+/* The longest data that 16 lets through, one byte too many for an entry. A program of the library's own has no room for
+ * so much. */
 enum { LIMIT = 16777208, LARGE_STORE = 16401 * PAGE };
 
 static uint8_t *memory_of(size_t size, int byte)
@@ -309,12 +310,12 @@ static void is_refused(const char *what, awirbesh_pushed p, uint64_t number, awi
     same_state(what, p.state, before.length, before.last, before.next);
 }
 
-static void is_written(const char *what, awirbesh_pushed p, uint64_t written, uint64_t length, uint64_t last)
+static void is_written(const char *what, awirbesh_pushed p, uint64_t written, uint64_t length, uint64_t last,
+                       uint64_t next)
 {
     same(what, p.number, AWIRBESH_OK);
     same(what, p.written, written);
-    same(what, p.state.length, length);
-    same(what, p.state.last, last);
+    same_state(what, p.state, length, last, next);
 }
 
 /* No byte was written since the store was made. */
@@ -330,11 +331,12 @@ static void is_stored(const char *what, const uint8_t *store, size_t store_len, 
                       const uint8_t *data, size_t length)
 {
     uint8_t *out = memory_of(length + 1, OLD);
-    awirbesh_look l = awirbesh_lookup(store, store_len, state, id, out, length);
+    awirbesh_look l = awirbesh_lookup(store, store_len, state, id, out, length + 1);
     same(what, l.number, AWIRBESH_OK);
     same(what, l.found, 1);
     same(what, l.length, length);
     same_bytes(what, out, data, length);
+    is_old(what, out + length, 1);
     free(out);
 }
 
@@ -355,7 +357,7 @@ static void fewer_bytes_than_too_many(void)
         is_old("after 3 and 16", store, LARGE_STORE);
         size_t after = fewer[i].pages * PAGE;
         p = push_one(store, LARGE_STORE, p.state, 7, data, fewer[i].length);
-        is_written("the same id with fewer", p, 1, after, 7);
+        is_written("the same id with fewer", p, 1, after, 7, 8);
         is_old("after the same id with fewer", store + after, LARGE_STORE - after);
         is_stored("the same id with fewer", store, LARGE_STORE, p.state, 7, data, fewer[i].length);
         is_refused("and once more", push_one(store, LARGE_STORE, p.state, 7, data, 0), AWIRBESH_OUT_OF_ORDER, p.state);
@@ -399,7 +401,7 @@ static void less_data_in_the_same_store(uint8_t *store)
     is_refused("a byte too much for a page", p, AWIRBESH_NO_ROOM, state);
     is_old("no less data", store + 3 * PAGE, STORE - 3 * PAGE);
     p = push_one(store, SMALL, p.state, 9, third, 1012);
-    is_written("less data", p, 1, SMALL, 9);
+    is_written("less data", p, 1, SMALL, 9, 13);
     is_old("past less data", store + SMALL, STORE - SMALL);
     is_stored("less data", store, SMALL, p.state, 9, third, 1012);
     is_crowd("before less data", store, SMALL, p.state);
@@ -413,11 +415,20 @@ static void same_data_in_a_longer_store(uint8_t *store)
     awirbesh_pushed p = awirbesh_push(store, SMALL + PAGE - 1, state, crowd_ids + 2, 2, ends, 2, third, ends[1]);
     is_refused("a byte too short", p, AWIRBESH_NO_ROOM, state);
     p = awirbesh_push(store, STORE, p.state, crowd_ids + 2, 2, ends, 2, third, ends[1]);
-    is_written("a longer store", p, 2, 6 * PAGE, 12);
+    is_written("a longer store", p, 2, 6 * PAGE, 12, 13);
     is_old("past a longer store's log", store + 6 * PAGE, STORE - 6 * PAGE);
     is_stored("a longer store", store, STORE, p.state, 9, third, ends[0]);
     is_stored("a longer store", store, STORE, p.state, 12, third + ends[0], ends[1] - ends[0]);
     is_crowd("before a longer store", store, STORE, p.state);
+}
+
+/* Nothing remembers what was refused: after a greater id it is out of order. */
+static void a_greater_id_first(uint8_t *store)
+{
+    awirbesh_pushed p = push_one(store, SMALL, push_crowd(store), 12, batch_data, 1012);
+    is_written("a greater id first", p, 1, SMALL, 12, 13);
+    is_refused("then the refused id", push_one(store, STORE, p.state, 9, batch_data, 0), AWIRBESH_OUT_OF_ORDER, p.state);
+    is_crowd("before a greater id", store, SMALL, p.state);
 }
 
 /* Order before size and room, size before room: of one page, of several and of too many. */
@@ -450,6 +461,7 @@ static void refused_entries_keep_their_ids(void)
     fewer_bytes_than_too_many();
     less_data_in_the_same_store(store);
     same_data_in_a_longer_store(store);
+    a_greater_id_first(store);
     first_test_that_fails(store);
 }
 
