@@ -7,28 +7,23 @@ use std::path::PathBuf;
 
 use awirbesh::{Entry, Error, IdSequence, LogFile, PushRefused, Refusal};
 
-/// Room for two pages beyond those that the file has: too little for the story, so that a build is refused.
+/// Bytes of memory for the log: at first too few for the story, so that a build is refused.
 const LITTLE_ROOM: usize = 2 * 1024;
 const MORE_ROOM: usize = 1 << 20;
 
-fn open_log(path: &PathBuf) -> Result<LogFile, Error> {
-    let length = std::fs::metadata(path).map_or(0, |file| file.len() as usize);
-    LogFile::open(path, length + LITTLE_ROOM)
-}
-
 /// Where the planners bring the index builds that they finished, in any order. Ids go into the log in ascending order, so
-/// a build waits here until every id before it is settled, built or dropped, and until there is room for it.
+/// a build waits here until every id before it has ended, built or dropped, and until there is room for it.
 struct Catalog {
     log: LogFile,
-    settled: IdSequence,
+    ended: IdSequence,
     waiting: Vec<Entry>,
 }
 
 impl Catalog {
     fn open(path: &PathBuf) -> Result<Catalog, Error> {
-        let log = open_log(path)?;
-        let settled = IdSequence::new(log.log().state().next);
-        Ok(Catalog { log, settled, waiting: Vec::new() })
+        let log = LogFile::open(path, LITTLE_ROOM)?;
+        let ended = IdSequence::new(log.log().state().next);
+        Ok(Catalog { log, ended, waiting: Vec::new() })
     }
 
     fn take(&mut self, who: &str) -> Result<u64, Error> {
@@ -40,31 +35,28 @@ impl Catalog {
     /// A real index is built.
     fn build(&mut self, who: &str, id: u64, index: &str) -> Result<(), Error> {
         println!("{who} brings index {id}: {index}");
+        self.ended.note(id)?;
         self.waiting.push(Entry::new(id, index));
-        self.settle(id)
+        self.log_waiting()
     }
 
     /// A what-if session ends.
     fn drop_id(&mut self, who: &str, id: u64) -> Result<(), Error> {
         println!("{who} drops what-if {id}");
-        self.settle(id)
+        self.ended.note(id)?;
+        self.log_waiting()
     }
 
-    fn settle(&mut self, id: u64) -> Result<(), Error> {
-        self.settled.note(id)?;
-        self.log_settled()
-    }
-
-    /// The log is given more room, and what waits for it goes in.
+    /// The log is given more room, for what waits for it.
     fn make_room(&mut self) -> Result<(), Error> {
         println!("the catalog is given more room");
         self.log.grow(self.log.log().bytes().len() + MORE_ROOM)?;
-        self.log_settled()
+        self.log_waiting()
     }
 
     /// Once no earlier id is out, what waits goes into the log.
-    fn log_settled(&mut self) -> Result<(), Error> {
-        if !self.settled.complete() || self.waiting.is_empty() {
+    fn log_waiting(&mut self) -> Result<(), Error> {
+        if !self.ended.complete() || self.waiting.is_empty() {
             return Ok(());
         }
         self.waiting.sort_by_key(|entry| entry.id);
@@ -72,7 +64,7 @@ impl Catalog {
             Ok(()) => self.drop_logged(self.waiting.len()),
             Err(Error::PushRefused(refused)) => {
                 self.drop_logged(refused.written);
-                self.wait_for_room(refused)?;
+                self.hear_refused(refused)?;
             }
             Err(error) => return Err(error),
         }
@@ -87,12 +79,33 @@ impl Catalog {
         }
     }
 
-    /// What is refused for room waits on, the refused build first. Any other refusal is an error.
-    fn wait_for_room(&self, refused: PushRefused) -> Result<(), Error> {
-        if refused.refusal != Refusal::NoRoom {
-            return Err(Error::PushRefused(refused));
+    /// A build for which there is no room waits on, and so do those after it. Another refusal is an error; one of the
+    /// first build alone gives that up, so that the others do not wait for it.
+    fn hear_refused(&mut self, refused: PushRefused) -> Result<(), Error> {
+        match refused.refusal {
+            Refusal::NoRoom => {
+                println!("  {refused}; index {} keeps its id and waits", self.waiting[0].id);
+                return Ok(());
+            }
+            Refusal::OutOfOrder | Refusal::TooLarge => drop(self.waiting.remove(0)),
+            _ => {}
         }
-        println!("  {refused}; index {} keeps its id and waits", self.waiting[0].id);
+        Err(Error::PushRefused(refused))
+    }
+
+    /// Of an id up to the last written, that it is absent says for good that nothing was built; of a later one it says
+    /// nothing yet.
+    fn tell_which_is_which(&self) -> Result<(), Error> {
+        println!("\nwhich is which?");
+        let state = self.log.log().state();
+        for id in 1..state.next {
+            match self.log.log().get(id)? {
+                Some(index) => println!("  {id} is real: {}", String::from_utf8_lossy(&index)),
+                None if id <= state.last => println!("  {id} was a what-if"),
+                None => println!("  {id} is not settled yet"),
+            }
+        }
+        println!();
         Ok(())
     }
 }
@@ -109,6 +122,7 @@ fn tell(path: &PathBuf) -> Result<(), Error> {
     catalog.build("planner A", on_orders, "orders (customer, day)")?;
     catalog.drop_id("planner C", what_if)?;
     catalog.build("planner B", on_lines, "lines (product)")?;
+    catalog.tell_which_is_which()?;
     catalog.make_room()?;
 
     let another = catalog.take("planner A")?;
@@ -116,15 +130,9 @@ fn tell(path: &PathBuf) -> Result<(), Error> {
     let on_customers = catalog.take("planner B")?;
     catalog.build("planner B", on_customers, "customers (city)")?;
 
-    println!("\nwhich is which?");
-    for id in 1..catalog.log.log().state().next {
-        match catalog.log.log().get(id)? {
-            Some(index) => println!("  {id} is real: {}", String::from_utf8_lossy(&index)),
-            None => println!("  {id} was a what-if"),
-        }
-    }
+    catalog.tell_which_is_which()?;
 
-    println!("\nplanner B brings index {on_lines} again");
+    println!("planner B brings index {on_lines} again");
     match catalog.log.push(&[Entry::new(on_lines, "lines (product, day)")]) {
         Err(Error::PushRefused(refused)) => println!("  {refused}"),
         other => println!("  not as expected: {other:?}"),
@@ -137,7 +145,7 @@ fn tell(path: &PathBuf) -> Result<(), Error> {
     }
 
     drop(catalog);
-    let again = open_log(path)?;
+    let again = LogFile::open(path, LITTLE_ROOM)?;
     again.log().check()?;
     let state = again.log().state();
     println!("\nopened again: {} bytes, last written {}, next id {}; sound", state.length, state.last, state.next);

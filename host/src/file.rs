@@ -5,7 +5,7 @@ use std::{
     path::Path,
 };
 
-use crate::{Entry, Log, PushRefused, Refusal};
+use crate::{log::new_store, Entry, Log, PushRefused, Refusal};
 
 /// What can go wrong with a log in a file: the library refuses, or the file does not do what was asked.
 #[derive(Debug)]
@@ -61,17 +61,17 @@ pub struct LogFile {
 }
 
 impl LogFile {
-    /// Opens a log, or makes an empty one, for a store of so many bytes; recovers it, and cuts a part page, which
-    /// a crash in the middle of a write leaves, off the file. A second opening at the same time is an error.
+    /// Opens a log, or makes an empty one, for a store of so many bytes, or of as many as the file has if those are
+    /// more; recovers it, and cuts a part page, which a crash in the middle of a write leaves, off the file. A second
+    /// opening at the same time is an error.
     pub fn open(path: impl AsRef<Path>, capacity: usize) -> Result<LogFile, Error> {
         let file = OpenOptions::new().read(true).write(true).create(true).truncate(false).open(path)?;
         file.try_lock().map_err(io::Error::from)?;
         let mut file = Locked(file);
         let length = file.0.metadata()?.len();
-        let mut store = vec![0; capacity];
-        // A longer file is not read to its end: the library refuses a length above the store's size.
-        let kept = length.min(capacity as u64) as usize;
-        file.0.read_exact(&mut store[..kept])?;
+        // A file that is too long for a store is not read at all.
+        let mut store = new_store(capacity.max(length as usize))?;
+        file.0.read_exact(&mut store[..length as usize])?;
         let (log, excess) = Log::recover(store, length)?;
         if excess > 0 {
             file.0.set_len(log.state().length)?;
@@ -81,7 +81,7 @@ impl LogFile {
     }
 
     /// Appends entries; once it returns, those that were written are on the disk. What was refused for room can be
-    /// pushed again, with the same ids, after [`LogFile::grow`].
+    /// pushed again, with the same ids, after [`LogFile::grow`], until the log is opened again: see [`PushRefused`].
     pub fn push(&mut self, entries: &[Entry]) -> Result<(), Error> {
         if self.behind {
             return Err(io::Error::other("an earlier write failed: open the log again").into());
@@ -104,7 +104,7 @@ impl LogFile {
         self.file.0.sync_data()
     }
 
-    /// Makes the store larger, as [`Log::grow`] does. Nothing of the file changes.
+    /// Gives the log a larger store, as [`Log::grow`] does. Nothing of the file changes.
     pub fn grow(&mut self, capacity: usize) -> Result<(), Refusal> {
         self.log.grow(capacity)
     }

@@ -113,7 +113,8 @@ pub struct Pushed {
     pub state: State,
 }
 
-/// Appends a batch: entry i has id `ids[i]` and the data from `ends[i - 1]`, or 0, to `ends[i]` of `data`.
+/// Appends a batch: entry i has id `ids[i]` and the data from `ends[i - 1]`, or 0, to `ends[i]` of `data`. After n were
+/// written the rest is `&ids[n..]`, `&data[ends[n - 1]..]`, and the ends from n on, each less `ends[n - 1]`.
 pub fn push(store: &mut [u8], state: State, ids: &[u64], ends: &[u64], data: &[u8]) -> Pushed {
     let p = unsafe {
         ffi::awirbesh_push(

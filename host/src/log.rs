@@ -16,7 +16,8 @@ impl Entry {
 }
 
 /// A push that was refused. The entries before the refused one were written and stay. After [`Refusal::TooLarge`] and
-/// [`Refusal::NoRoom`] the refused one and those after it keep their ids, and can be pushed again.
+/// [`Refusal::NoRoom`] the refused one and those after it keep their ids, and can be pushed again, as long as the log is
+/// open: one that is opened again knows nothing of ids above the last stored.
 #[derive(Clone, Copy, Debug, PartialEq, Eq)]
 pub struct PushRefused {
     pub refusal: Refusal,
@@ -55,12 +56,13 @@ impl Log {
         Ok((Log { store, state }, excess))
     }
 
-    /// Makes the store so many bytes large, so that what was refused for room can be pushed again with its id. A store
-    /// that is as large already stays. One that the library refuses, with 1, is dropped, and the log is as it was.
+    /// Gives the log a store of so many bytes, so that what was refused for room can be pushed again with its id. A
+    /// store that has as many already stays. If the library refuses one so long, with 1, the log is as it was. For a
+    /// moment the old store and the new one stand side by side; without the memory for that the program stops, as
+    /// wherever Rust asks for memory.
     pub fn grow(&mut self, capacity: usize) -> Result<(), Refusal> {
         if capacity > self.store.len() {
-            let mut store = vec![0; capacity];
-            lent::find(&store, self.state, 0)?; // tests the store's size, and reads no page
+            let mut store = new_store(capacity)?;
             store[..self.bytes().len()].copy_from_slice(self.bytes());
             self.store = store;
         }
@@ -130,6 +132,13 @@ impl Log {
         let cursor = lent::scan(&self.store, self.state, range)?;
         Ok(Scan { log: self, range, cursor, buffer: Vec::new(), done: false })
     }
+}
+
+/// A store of so many zeros, if the library does not refuse one so long.
+pub(crate) fn new_store(capacity: usize) -> Result<Vec<u8>, Refusal> {
+    let store = vec![0; capacity];
+    lent::find(&store, State::fresh(), 0)?; // tests the store's size, and reads no page
+    Ok(store)
 }
 
 /// Calls with a buffer, and once more with a larger one where the library says how large.

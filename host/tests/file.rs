@@ -1,7 +1,7 @@
 //! The log in a file: what is written, synced, cut and refused; and the example's story.
 use std::{fs, path::PathBuf, process::Command};
 
-use awirbesh::{Entry, Error, LogFile, Refusal, State};
+use awirbesh::{Entry, Error, LogFile, PushRefused, Refusal, State};
 
 const CAPACITY: usize = 64 * 1024;
 
@@ -85,7 +85,7 @@ fn what_was_refused_for_room_is_in_the_file_once_there_is_more() {
 }
 
 #[test]
-fn what_was_refused_for_room_takes_its_id_again_after_a_restart() {
+fn after_a_restart_the_next_id_is_that_of_the_refused_entry() {
     let path = Scratch::new("restart");
     let (log, entries) = three_in_two_pages(&path);
     drop(log);
@@ -125,11 +125,9 @@ fn opening_cuts_a_part_page() {
 #[test]
 fn a_log_that_is_no_log_is_refused_and_left_alone() {
     let path = Scratch::new("none");
-    for (bytes, refusal) in [
-        (vec![9; 2048], Refusal::BadMark { page: 1 }),
-        (vec![0; 2048], Refusal::NoEntries { page: 0 }),
-        (vec![0; CAPACITY + 1], Refusal::BadState),
-    ] {
+    for (bytes, refusal) in
+        [(vec![9; 2048], Refusal::BadMark { page: 1 }), (vec![0; 2048], Refusal::NoEntries { page: 0 })]
+    {
         fs::write(&path.0, &bytes).unwrap();
         match LogFile::open(&path.0, CAPACITY) {
             Err(Error::Refused(r)) => assert_eq!(r, refusal),
@@ -137,6 +135,29 @@ fn a_log_that_is_no_log_is_refused_and_left_alone() {
         }
         assert_eq!(fs::read(&path.0).unwrap(), bytes);
     }
+}
+
+/// The capacity is what a log has at least: a file that grew beyond it is opened whole.
+#[test]
+fn a_file_that_outgrew_the_capacity_is_opened() {
+    let path = Scratch::new("outgrown");
+    let (mut log, entries) = three_in_two_pages(&path);
+    log.grow(CAPACITY).unwrap();
+    log.push(&entries[2..]).unwrap();
+    drop(log);
+    let mut log = LogFile::open(&path.0, 1024).unwrap();
+    assert_eq!(entries_of(&log), entries);
+    let refused = log.push(&[Entry::new(4, "")]);
+    assert!(matches!(refused, Err(Error::PushRefused(PushRefused { refusal: Refusal::NoRoom, written: 0 }))));
+}
+
+/// The file is one hole, so that it takes no room on the disk.
+#[test]
+fn a_file_longer_than_any_store_is_refused_and_left_alone() {
+    let path = Scratch::new("longest");
+    fs::File::create(&path.0).unwrap().set_len((1 << 31) + 1).unwrap();
+    assert!(matches!(LogFile::open(&path.0, CAPACITY), Err(Error::Refused(Refusal::BadState))));
+    assert_eq!(fs::metadata(&path.0).unwrap().len(), (1 << 31) + 1);
 }
 
 #[test]

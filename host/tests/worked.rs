@@ -147,7 +147,7 @@ fn a_store_never_shrinks() {
     assert_eq!(log.state().length, 4 * 1024);
 }
 
-/// The stores of about 2^31 bytes are never written to, so that the system has to find no memory for them.
+/// Of the stores of about 2^31 bytes only a few pages are touched, so that the system finds memory for those alone.
 #[test]
 fn a_store_that_the_library_refuses_is_not_kept() {
     let (mut log, entries) = crowd();
