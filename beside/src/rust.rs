@@ -27,9 +27,9 @@ pub fn caught<T>(run: impl FnOnce() -> T) -> Result<T, String> {
             }
         }));
     });
-    QUIET.set(true);
+    let quiet = QUIET.replace(true);
     let ran = panic::catch_unwind(AssertUnwindSafe(run));
-    QUIET.set(false);
+    QUIET.set(quiet);
     ran.map_err(|payload| match payload.downcast::<String>() {
         Ok(text) => *text,
         Err(payload) => payload.downcast::<&str>().map_or("?".to_string(), |text| text.to_string()),

@@ -131,7 +131,7 @@ pub record Settled (w : World) (id : ℕ) : Type 0 where
   pub most : id ≤ w .state .last
   pub below : id < w .state .next
 
--- 11.10 "last written may be read as the id of the last entry stored"
+-- 11.10 "last written is the id of the last entry stored": said by that entry
 pub record SettledByStored (w : World) (id : ℕ) : Type 0 where
   pub some : 1 ≤ id
   pub page : ℕ
