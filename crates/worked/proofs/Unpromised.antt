@@ -23,7 +23,7 @@ use Rattle.demands.specs.History.{World, world, logOf, take-id, recover, answer
 use Rattle.demands.proofs.Last.{last-stored-greatest}
 use Rattle.demands.proofs.Check.Passing.{checked-sound}
 use Rattle.demands.proofs.History.Demands.{last-is-stored}
-use Rattle.worked.proofs.Witnessed.{store, store-is-sound, begins, begins-there, three-settled, other}
+use Rattle.worked.proofs.Witnessed.{store, store-is-sound, begins, begins-there, three-settled, much, pushes-four, other}
 
 -- ---- 12.1: what passes the sound check
 
@@ -51,6 +51,11 @@ unmarked-is-lost = refl
 pub dropped-comes-again : run begins (take-id ∷ recover ∷ take-id ∷ []) ≡ run begins (take-id ∷ [])
 unfolding pagesFor pageAt numberAt bytesOf markAt lengthAt idAt entryAt filled firstPage laterPage laterPages entryPages tooLong takeOf atLast walkBack recoverLog recoverOf answer step run
 dropped-comes-again = refl
+
+-- one that 4 refused
+pub refused-comes-again : run begins (take-id ∷ pushes-four much ∷ recover ∷ take-id ∷ []) ≡ run begins (take-id ∷ [])
+unfolding pagesFor pageAt numberAt bytesOf markAt lengthAt idAt entryAt filled firstPage laterPage laterPages entryPages tooLong badState takeOf atLast walkBack recoverLog recoverOf entryData some badEnd badBatch largeData someLarge wrote turn entriesFrom pushOf answer step run
+refused-comes-again = refl
 
 -- ---- 12.3: faults that are not told
 

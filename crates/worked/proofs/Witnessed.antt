@@ -222,10 +222,10 @@ pub four-word : Words (4 ∷ [])
 four-word zero = lit< tt
 four-word (suc k) = lit< tt
 
-abbrev much : List ℕ
+abbrev pub much : List ℕ
 much = replicate 2036 7
 
-abbrev pushes-four : List ℕ → Call
+abbrev pub pushes-four : List ℕ → Call
 pushes-four d = push (4 ∷ []) (length d ∷ []) d four-word
 
 -- once its id is taken
