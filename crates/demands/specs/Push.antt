@@ -1,4 +1,4 @@
--- Rules 11, "What is promised", 11.3 and 11.7: what a push adds to the log, and what it leaves of a sound one.
+-- Rules 11, "What is promised", 11.3 and 11.7: what a push adds to the log, and what it leaves, on any input and of a sound log.
 use Prim.Native.Nat.{ℕ, zero, suc, _+_, _≤_, _<_}
 use mathlib.Core.Path.{_≡_}
 use mathlib.Core.List.{List, [], _++_}

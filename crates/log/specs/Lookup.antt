@@ -61,7 +61,8 @@ pub record Window : Type 0 where
 abbrev pub window : ℕ → ℕ → ℕ → ℕ → Window
 window lo hi a b = record { lo = lo; hi = hi; a = a; b = b }
 
--- 8.6 "If its id is smaller: a becomes it, and lo becomes the page after the entry, or g + 1 if that is more. If greater: b becomes it, and hi becomes s": page s was met on the way back from the guess g, and `rest` is the way back from there
+-- 8.6 "If its id is smaller: a becomes it, and lo becomes the page after the entry, or g + 1 if that is more. If greater: b becomes it, and hi becomes s":
+-- page s was met on the way back from the guess g, and `rest` is the way back from there
 unfoldable pub turned : Window → ℕ → ℕ → Round Looking Window → Saying → Round Looking Window
 turned w g s rest (ends r) = stop r
 turned w g s rest (below stored after) = again (window (max (g + 1) after) (w .hi) stored (w .b))
