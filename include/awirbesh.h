@@ -129,14 +129,17 @@ typedef struct {
 awirbesh_checked awirbesh_check(const uint8_t *store, size_t store_len, uint64_t length);
 
 typedef struct {
-    uint64_t number; /* 0, 1, 5, 6, 7, 8 or 9 */
+    uint64_t number; /* 0, 1, 5, 6, 8 or 9 */
     uint64_t value;
     uint64_t excess;      /* bytes of a part page that were cut off the length: under 1,024 */
+    uint64_t dropped;     /* pages of cut entries that were dropped from the length */
     awirbesh_state state; /* the state to go on with; all 0 after a refusal */
 } awirbesh_recovered;
 
-/* The state of the log in the first `length` bytes of the store, by its last entry alone. Changes no byte: the
- * caller cuts the excess from its file. */
+/* The state of the log in the first `length` bytes of the store, by its last whole entry. An entry that a crash cut
+ * short is dropped with the pages after its start, and so is the one before it while that is cut by what remains; if
+ * nothing is left the state is fresh. Changes no byte: the caller cuts its file to the state's length, which is
+ * `excess` and 1,024 times `dropped` bytes shorter than the length given. */
 awirbesh_recovered awirbesh_recover(const uint8_t *store, size_t store_len, uint64_t length);
 
 /* ---- reading: rules 8, 9; what a sound log is, rules 2 ---- */

@@ -60,6 +60,7 @@ pub struct Recovered {
     pub number: u64,
     pub value: u64,
     pub excess: u64,
+    pub dropped: u64,
     pub state: State,
 }
 

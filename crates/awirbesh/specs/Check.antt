@@ -10,8 +10,8 @@ abbrev pub checkedNumbers : Checking → CheckedNumbers
 checkedNumbers sound = record { number = 0; value = 0 }
 checkedNumbers (refused number value) = record { number = number; value = value }
 
--- the state, and the excess: 6.2 "their count is reported with the state"
+-- the state, the excess and the pages dropped: 6.2 "their count is reported with the state", 6.6 "The count of pages dropped is reported with it"
 abbrev pub recoveredNumbers : Recovering → RecoveredNumbers
-recoveredNumbers (recovered st excess) = record { number = 0; value = 0; excess = excess; state = stateNumbers st }
+recoveredNumbers (recovered st excess dropped) = record { number = 0; value = 0; excess = excess; dropped = dropped; state = stateNumbers st }
 recoveredNumbers (unrecovered number value) =
-    record { number = number; value = value; excess = 0; state = record { length = 0; last = 0; next = 0 } }
+    record { number = number; value = value; excess = 0; dropped = 0; state = record { length = 0; last = 0; next = 0 } }

@@ -19,6 +19,7 @@ pub struct RecoveredNumbers {
     pub number: u64,
     pub value: u64,
     pub excess: u64,
+    pub dropped: u64,
     pub state: StateNumbers,
 }
 
@@ -41,16 +42,22 @@ fn recovered_numbers(recovered: Recovered) -> RecoveredNumbers
     ensures { λ r. ⌜ r ≡ recoveredNumbers (paperRecovered recovered) ⌝ }
 {
     match recovered {
-        Recovered::At { state, excess } => RecoveredNumbers {
+        Recovered::At {
+            state,
+            excess,
+            dropped,
+        } => RecoveredNumbers {
             number: 0,
             value: 0,
             excess,
+            dropped,
             state: state::state_numbers(state),
         },
         Recovered::Refused(refusal) => RecoveredNumbers {
             number: refusal.number(),
             value: refusal.value(),
             excess: 0,
+            dropped: 0,
             state: StateNumbers {
                 length: 0,
                 last: 0,

@@ -36,9 +36,9 @@ checked-unique (Unsound r) Sound e = absurd (let z : _≡_ {A = ℕ} 0 1 = cc in
 checked-unique (Unsound r) (Unsound r′) e = ap Unsound (refusal-unique r r′ (cc) (cc))
 
 pub recovered-unique : (r s : Recovered) → paperRecovered r ≡ paperRecovered s → r ≡ s
-recovered-unique (RecoveredAt st excess) (RecoveredAt st′ excess′) e = cc
-recovered-unique (RecoveredAt st excess) (Unrecovered r′) e = absurd (let z : _≡_ {A = ℕ} 0 1 = cc in omega arith)
-recovered-unique (Unrecovered r) (RecoveredAt st′ excess′) e = absurd (let z : _≡_ {A = ℕ} 0 1 = cc in omega arith)
+recovered-unique (RecoveredAt st excess dropped) (RecoveredAt st′ excess′ dropped′) e = cc
+recovered-unique (RecoveredAt st excess dropped) (Unrecovered r′) e = absurd (let z : _≡_ {A = ℕ} 0 1 = cc in omega arith)
+recovered-unique (Unrecovered r) (RecoveredAt st′ excess′ dropped′) e = absurd (let z : _≡_ {A = ℕ} 0 1 = cc in omega arith)
 recovered-unique (Unrecovered r) (Unrecovered r′) e = ap Unrecovered (refusal-unique r r′ (cc) (cc))
 
 pub look-unique : (r s : Look) → paperLook r ≡ paperLook s → r ≡ s

@@ -6,65 +6,83 @@ use page::Mark;
 use page::Page;
 use refusal::Refusal;
 ghost use mathlib.Core.Path.{_≡_};
-ghost use Prim.Native.Nat.{_-_, _<_};
+ghost use Prim.Native.Nat.{_%_};
 ghost use lib.ListN.{length};
-ghost use Rattle.page.specs.Size.{pageCount};
-ghost use Rattle.page.specs.Entry.{entryAt};
-ghost use Rattle.log.specs.Recovery.{paperRecovered, atLast, walkBack, recoverOf};
+ghost use Rattle.page.specs.Size.{pageSize};
+ghost use Rattle.log.specs.Recovery.{paperRecovered, atWhole, recoverLog, recoverOf};
 
-// The state and the size of the excess that was cut off, or a refusal.
+// The state, the size of the excess that was cut off and the count of pages dropped, or a refusal.
 pub enum Recovered {
-    At { state: State, excess: u64 },
+    At {
+        state: State,
+        excess: u64,
+        dropped: u64,
+    },
     Refused(Refusal),
 }
 
-// What the start at page s, the last one, says of the state.
-fn at_last(log: &[u8], s: usize, excess: u64) -> Recovered
-    requires { ⌜ s < pageCount (now log) ⌝ }
-    ensures { λ r. ⌜ paperRecovered r ≡ atLast (length (now (log .entry))) excess s (entryAt (now (log .entry)) s) ⌝ }
+// A log of so many bytes whose last entry, a whole one, has this id.
+fn at_whole(length: u64, id: u64, excess: u64, dropped: u64) -> Recovered
+    ensures { λ r. ⌜ paperRecovered r ≡ atWhole length id excess dropped ⌝ }
 {
-    let entry = Entry::read(log, s);
-    match entry {
-        Entry::Short => Recovered::Refused(Refusal::ShortEntry { page: s as u64 }),
-        Entry::Cut { id: _ } => Recovered::Refused(Refusal::CutEntry { page: s as u64 }),
-        Entry::Whole {
-            id,
-            length: _,
-            after: _,
-        } => {
-            if id == 0xffff_ffff_ffff_ffff {
-                return Recovered::Refused(Refusal::IdsUsedUp);
-            }
-            Recovered::At {
-                state: State::recovered(log.len() as u64, id),
-                excess,
-            }
-        }
+    if id == 0xffff_ffff_ffff_ffff {
+        return Recovered::Refused(Refusal::IdsUsedUp);
+    }
+    Recovered::At {
+        state: State::recovered(length, id),
+        excess,
+        dropped,
     }
 }
 
-// Walks back from the last page to a start.
+// Walks back from the last page to a start whose entry is whole in the pages left; those from a cut one on are dropped.
 fn walk_back(log: &[u8], excess: u64) -> Recovered
-    requires { ⌜ 0 < pageCount (now log) ⌝ }
-    ensures { λ r. ⌜ paperRecovered r ≡ walkBack (now (log .entry)) excess (pageCount (now (log .entry)) - 1) ⌝ }
+    requires { ⌜ length (now log) % pageSize ≡ 0 ⌝ }
+    ensures { λ r. ⌜ paperRecovered r ≡ recoverLog (now (log .entry)) excess ⌝ }
 {
-    let mut p = Page::count(log) - 1;
-    loop {
+    let pages = Page::count(log);
+    let mut left = pages;
+    let mut p = pages;
+    while p != 0 {
+        p -= 1;
         let mark = Mark::read(log, p);
         match mark {
             Mark::Start => {
-                return at_last(log, p, excess);
+                let entry = Entry::read(&log[..left * Page::SIZE], p);
+                match entry {
+                    Entry::Short => {
+                        return Recovered::Refused(Refusal::ShortEntry { page: p as u64 });
+                    }
+                    Entry::Cut { id: _ } => {
+                        left = p;
+                    }
+                    Entry::Whole {
+                        id,
+                        length: _,
+                        after: _,
+                    } => {
+                        return at_whole(
+                            (left * Page::SIZE) as u64,
+                            id,
+                            excess,
+                            (pages - left) as u64,
+                        );
+                    }
+                }
             }
             Mark::Bad => {
                 return Recovered::Refused(Refusal::BadMark { page: p as u64 });
             }
-            Mark::Later => {
-                if p == 0 {
-                    return Recovered::Refused(Refusal::NoEntries { page: 0 });
-                }
-                p -= 1;
-            }
+            Mark::Later => {}
         }
+    }
+    if left != 0 {
+        return Recovered::Refused(Refusal::NoEntries { page: 0 });
+    }
+    Recovered::At {
+        state: State::fresh(),
+        excess,
+        dropped: pages as u64,
     }
 }
 
@@ -77,12 +95,5 @@ pub fn recover(store: &[u8], length: u64) -> Recovered
     }
     let n = length as usize;
     let excess = n % Page::SIZE;
-    let whole = n - excess;
-    if whole == 0 {
-        return Recovered::At {
-            state: State::fresh(),
-            excess: excess as u64,
-        };
-    }
-    walk_back(&store[..whole], excess as u64)
+    walk_back(&store[..n - excess], excess as u64)
 }

@@ -4,7 +4,7 @@ use mathlib.Core.Bool.{Bool, true, false}
 use mathlib.Core.List.{List}
 use Prim.Native.Nat.{ℕ, _+_, _-_, _*_, _≤_, _<_}
 use native.Mathlib.Omega.{arith}
-use borrow.Author.Tests.{lt-ltb, le-ltb, ltb-false}
+use borrow.Author.Tests.{lt-ltb, le-ltb, ltb-true, ltb-false}
 use lib.Dec.{ltb}
 use lib.ListN.{length, take, drop}
 use lib.Seq.{getD-drop}
@@ -74,12 +74,29 @@ is-whole {log} {s} {id} {len} {after} e = go (ltb (lengthAt log s) idSize) (ltb 
       after-is = cc;
     }
 
+-- a cut entry's pages go past the log's
+pub is-cut : (log : List ℕ) (s : ℕ) {id : ℕ} → entryAt log s ≡ cut id → pageCount log < afterAt log s
+unfolding entryAt
+is-cut log s {id} e = go (ltb (lengthAt log s) idSize) (ltb (pageCount log) (afterAt log s)) refl e
+  where
+    go : (x y : Bool) → ltb (pageCount log) (afterAt log s) ≡ y
+        → pick x short (pick y (cut (idAt log s)) (whole (idAt log s) (dataLengthAt log s) (afterAt log s))) ≡ cut id
+        → pageCount log < afterAt log s
+    go true y q e = absurd (let z : _≡_ {A = ℕ} 0 1 = cc in omega arith)
+    go false true q e = ltb-true (pageCount log) (afterAt log s) q
+    go false false q e = absurd (let z : _≡_ {A = ℕ} 0 1 = cc in omega arith)
+
 -- a start whose length and pages are right is a whole entry
 pub whole-at : (log : List ℕ) (s : ℕ) → idSize ≤ lengthAt log s → afterAt log s ≤ pageCount log → entryAt log s ≡ whole (idAt log s) (dataLengthAt log s) (afterAt log s)
 unfolding entryAt
 whole-at log s l w = rw (le-ltb (lengthAt log s) idSize l, le-ltb (pageCount log) (afterAt log s) w)
 
--- its pages are those of its data
+-- and one whose pages go past the log's is a cut one
+pub cut-at : (log : List ℕ) (s : ℕ) → idSize ≤ lengthAt log s → pageCount log < afterAt log s → entryAt log s ≡ cut (idAt log s)
+unfolding entryAt
+cut-at log s l w = rw (le-ltb (lengthAt log s) idSize l, lt-ltb (pageCount log) (afterAt log s) w)
+
+-- the pages of an entry are those of its data
 pub after-data : (log : List ℕ) (s : ℕ) → idSize ≤ lengthAt log s → afterAt log s ≡ s + pagesForData (dataLengthAt log s)
 after-data log s l = let e : idSize + dataLengthAt log s ≡ lengthAt log s = omega arith in rw e
 

@@ -275,9 +275,13 @@ pub fn recover(w: World, l: Line, store: &[u8]) -> World {
     }
     let recovered = log::recover(store, length + excess);
     match recovered {
-        Recovered::At { state, excess: cut } => {
+        Recovered::At {
+            state,
+            excess: cut,
+            dropped,
+        } => {
             let numbers = state.length == l.b && state.last == l.c && state.next == l.d;
-            judged(w, cut == excess && numbers)
+            judged(w, cut == excess && dropped == 0 && numbers)
         }
         Recovered::Refused(_) => judged(w, false),
     }
