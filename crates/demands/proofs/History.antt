@@ -1,3 +1,5 @@
 pub mod Lasting
+pub mod Living
+pub mod Cuts
 pub mod Moving
 pub mod Demands

@@ -1,4 +1,5 @@
 pub mod Sound
+pub mod Front
 pub mod Output
 pub mod Last
 pub mod Push

@@ -1,5 +1,6 @@
 pub mod Appending
 pub mod Ways
 pub mod Batch
+pub mod Places
 pub mod Alone
 pub mod Retrying

@@ -1,1 +1,5 @@
+pub mod Cutting
 pub mod Resuming
+pub mod Reading
+pub mod Uncut
+pub mod Torn

@@ -1,15 +1,16 @@
--- Rules 11, "What is promised", 11.8 to 11.10: a store with its state, the calls, what they answer and what they leave, and the settled ids.
-use Prim.Native.Nat.{ℕ, _^_, _≤_, _<_}
+-- Rules 11, "What is promised", 11.8 to 11.10: a store with its state, the calls and cuts, what they answer and what they leave, and the settled ids.
+use Prim.Native.Nat.{ℕ, _*_, _/_, _^_, _≤_, _<_}
 use mathlib.Core.Path.{_≡_}
 use mathlib.Core.List.{List, [], _∷_, _++_, List·Memᴰ}
 use lib.ListN.{length, getD, take}
 use Rattle.refusal.specs.Pick.{pick}
+use Rattle.page.specs.Size.{pageSize}
 use Rattle.page.specs.Entry.{idAt}
 use Rattle.page.specs.Data.{dataAt}
 use Rattle.page.specs.Write.{overwritten}
 use Rattle.log.specs.Bounds.{tooLong}
 use Rattle.log.specs.Output.{WithOutput}
-use Rattle.log.specs.State.{Taking, taken, refused as untaken, takeOf}
+use Rattle.log.specs.State.{stateOf, topId, Taking, taken, refused as untaken, takeOf}
 use Rattle.pushing.specs.Push.{Done, pushOf}
 use Rattle.log.specs.Recovery.{Recovering, recovered, refused as unrecovered, cutLog, recoverOf}
 use Rattle.log.specs.Lookup.{Looking, findOf, lookupOf}
@@ -18,6 +19,8 @@ use Rattle.scanning.specs.Step.{Stepping, stepOf}
 use Rattle.log.specs.declared.state.State.{State}
 use Rattle.scanning.specs.declared.Range.{Range}
 use Rattle.demands.specs.Sound.{Start, Sound, Stored, Last}
+use Rattle.demands.specs.Push.{Push}
+use Rattle.demands.specs.Recovery.{Left}
 use Rattle.demands.specs.Lookup.{Standing, present, missing, unsaid, standing}
 
 -- the bytes of the store, and the state that its owner holds
@@ -38,7 +41,8 @@ logOf w = take (w .state .length) (w .store)
 abbrev pub Words : List ℕ → Type 0
 Words ids = (k : ℕ) → getD ids k 0 < 2 ^ 64
 
--- any push, take, find, lookup, scan, step or recovery at the log's length: any batch, id, range, cursor and output; and another store, with any bytes after the log
+-- any push, take, find, lookup, scan, step or recovery at the log's length: any batch, id, range, cursor and output; another store, with any bytes after the log;
+-- and a cut after n bytes of the log, with any bytes beyond
 pub data Call : Type 0 where
   push : (ids ends bytes : List ℕ) → Words ids → Call
   take-id : Call
@@ -48,6 +52,7 @@ pub data Call : Type 0 where
   step-on : (range : Range) (cursor : ℕ) (out : List ℕ) → Call
   recover : Call
   lend : (rest : List ℕ) → Call
+  cut : (n : ℕ) (rest : List ℕ) → Call
 
 -- what a call answers, and what it leaves in what it is lent, by the definitions that the functions' contracts cite
 pub data Answer : Type 0 where
@@ -59,10 +64,15 @@ pub data Answer : Type 0 where
   stepped : WithOutput Stepping → Answer
   restored : Recovering → Answer
   lent : List ℕ → Answer
+  reopened : (store : List ℕ) → Recovering → Answer
 
 -- another store that begins with the log; one that is refused 1 is not gone on with
 unfoldable pub anotherStore : World → List ℕ → List ℕ
 anotherStore w rest = pick (tooLong (logOf w ++ rest) (w .state .length)) (w .store) (logOf w ++ rest)
+
+-- 11 "the store keeps the bytes before the cut and holds anything beyond": those bytes, all of the log if it has no more
+abbrev pub keptOf : World → ℕ → List ℕ
+keptOf w n = take n (logOf w)
 
 unfoldable pub answer : World → Call → Answer
 answer w (push ids ends bytes words) = pushed (pushOf (w .store) (w .state) ids ends bytes)
@@ -73,6 +83,7 @@ answer w (scan range) = scan-began (scanOf (w .store) (w .state) range)
 answer w (step-on range cursor out) = stepped (stepOf (w .store) (w .state) range cursor out)
 answer w recover = restored (recoverOf (w .store) (w .state .length))
 answer w (lend rest) = lent (anotherStore w rest)
+answer w (cut n rest) = reopened (keptOf w n ++ rest) (recoverOf (keptOf w n ++ rest) (length (keptOf w n)))
 
 -- the state after an id was asked for: 3.2 "a refusal leaves the state"
 abbrev pub stateAfterTake : State → Taking → State
@@ -81,10 +92,15 @@ stateAfterTake st (untaken number value) = st
 
 -- and after a recovery
 abbrev pub stateAfterRecovery : State → Recovering → State
-stateAfterRecovery st (recovered state excess) = state
+stateAfterRecovery st (recovered state excess dropped) = state
 stateAfterRecovery st (unrecovered number value) = st
 
--- the world after an answer: a push leaves a store and a state, taking and recovering a state, lending another one a store; a lookup and a scan are lent the store to read alone
+-- 11 "the state is the one that recovery gives there. A cut after which recovery gives none, by 1 or by 9, is not gone on with"
+abbrev pub afterCut : World → List ℕ → Recovering → World
+afterCut w store (recovered state excess dropped) = world store state
+afterCut w store (unrecovered number value) = w
+
+-- the world after an answer: a push leaves a store and a state, taking and recovering a state, lending another one a store, a cut both; a lookup and a scan are lent the store to read alone
 abbrev pub after : World → Answer → World
 after w (pushed r) = world (r .store) (r .answer .state)
 after w (handed-out r) = world (w .store) (stateAfterTake (w .state) r)
@@ -94,6 +110,7 @@ after w (scan-began r) = w
 after w (stepped r) = w
 after w (restored r) = world (w .store) (stateAfterRecovery (w .state) r)
 after w (lent store) = world store (w .state)
+after w (reopened store r) = afterCut w store r
 
 -- one call, with the state that the call before left
 unfoldable pub step : World → Call → World
@@ -121,7 +138,27 @@ pub record Begun (w : World) : Type 0 where
   pub size : ℕ
   pub sound : Sound (cutLog (w .store) size)
   pub excess : ℕ
-  pub is : recoverOf (w .store) size ≡ recovered (w .state) excess
+  pub dropped : ℕ
+  pub is : recoverOf (w .store) size ≡ recovered (w .state) excess dropped
+
+-- ---- cuts that spare the first bytes of the log
+
+-- a cut falls at or above so many bytes
+abbrev pub Spares : ℕ → Call → Type 0
+Spares bytes (push ids ends d words) = Unit {0}
+Spares bytes take-id = Unit {0}
+Spares bytes (find id) = Unit {0}
+Spares bytes (lookup id out) = Unit {0}
+Spares bytes (scan range) = Unit {0}
+Spares bytes (step-on range cursor out) = Unit {0}
+Spares bytes recover = Unit {0}
+Spares bytes (lend rest) = Unit {0}
+Spares bytes (cut n rest) = bytes ≤ n
+
+-- and so does every cut of a sequence
+abbrev pub AllSpare : ℕ → List Call → Type 0
+AllSpare bytes [] = Unit {0}
+AllSpare bytes (c ∷ cs) = Spares bytes c × AllSpare bytes cs
 
 -- ---- settled ids
 
@@ -162,6 +199,7 @@ Gives (scan range) r id s d = Unit {0}
 Gives (step-on range cursor out) r id s d = Unit {0}
 Gives recover r id s d = Unit {0}
 Gives (lend rest) r id s d = Unit {0}
+Gives (cut n rest) r id s d = Unit {0}
 
 -- and so does every call that is made now
 abbrev pub Answers : World → ℕ → Standing → List ℕ → Type 0
@@ -179,16 +217,29 @@ pub record Keeps (w : World) (id : ℕ) (s : Standing) (d : List ℕ) : Type 0 w
   pub answers : Answers w id s d
   pub exact : ExactlyStored (logOf w) id s d
 
--- 11.10 "gives what the first one gave": that is chosen before any later call is; every later call keeps it, and every later lookup gave it
+-- 11.10 "After a cut that recovery answers with 9": so many pages are left, and with the state that the caller makes up for them the id keeps its answer
+pub record KeepsFull (w : World) (n : ℕ) (rest : List ℕ) (id : ℕ) (s : Standing) (d : List ℕ) : Type 0 where
+  pub left : ℕ
+  pub is-left : Left (logOf w) (length (keptOf w n) / pageSize) left
+  pub keeps : Keeps (world (keptOf w n ++ rest) (stateOf (left * pageSize) topId topId)) id s d
+
+-- 11.10 "gives what the first one gave": that is chosen before any later call is; every later call keeps it, and every later lookup gave it,
+-- 11.10 "as long as no cut falls below the length that the log had when the id was settled"
 pub record KeepsFirst (w : World) (id : ℕ) : Type 0 where
   pub stands : Standing
   pub data-is : List ℕ
-  pub kept : (later : List Call) → Keeps (run w later) id stands data-is
-  pub gave : (later : List Call) (x : Said) → List·Memᴰ x (said w later) → Gives (x .call) (x .reply) id stands data-is
+  pub kept : (later : List Call) → AllSpare (w .state .length) later → Keeps (run w later) id stands data-is
+  pub gave : (later : List Call) → AllSpare (w .state .length) later → (x : Said) → List·Memᴰ x (said w later) → Gives (x .call) (x .reply) id stands data-is
+  pub full : (later : List Call) → AllSpare (w .state .length) later → (n : ℕ) (rest : List ℕ) → w .state .length ≤ n
+      → recoverOf (keptOf (run w later) n ++ rest) (length (keptOf (run w later) n)) ≡ unrecovered 9 0 → id < topId → KeepsFull (run w later) n rest id stands data-is
 
 -- ---- reading back
 
--- 11.9 "found by every later lookup with enough output, with its data and at one position, while its id is below next"
-pub record ReadsBack (w : World) (id : ℕ) (d : List ℕ) : Type 0 where
+-- a push in a world
+abbrev pub pushing : World → List ℕ → List ℕ → List ℕ → Push
+pushing w ids ends bytes = record { store = w .store; state = w .state; ids = ids; ends = ends; bytes = bytes }
+
+-- 11.9 "found by every later lookup with enough output, with its data and at one position, while its id is below next and no cut falls before the end of its pages"
+pub record ReadsBack (w : World) (id : ℕ) (d : List ℕ) (end : ℕ) : Type 0 where
   pub position : ℕ
-  pub reads : (later : List Call) → id < run w later .state .next → Answers (run w later) id (present position (length d)) d
+  pub reads : (later : List Call) → AllSpare end later → id < run w later .state .next → Answers (run w later) id (present position (length d)) d

@@ -57,6 +57,14 @@ Counted q j = j < outcome q .answer .written
 abbrev pub beginsAt : Push → ℕ → ℕ
 beginsAt q j = q .state .length + length (batchPages (q .ids) (q .ends) (q .bytes) j)
 
+-- where its pages end
+abbrev pub endsAt : Push → ℕ → ℕ
+endsAt q j = beginsAt q (suc j)
+
+-- the log before the push, and the pages of its first k entries
+abbrev pub logWith : Push → ℕ → List ℕ
+logWith q k = take (q .state .length) (q .store) ++ batchPages (q .ids) (q .ends) (q .bytes) k
+
 -- what the store has on the pages of entry j after the push
 abbrev pub pagesOf : Push → ℕ → List ℕ
 pagesOf q j = take (bytesFor (dataIn q j)) (drop (beginsAt q j) (outcome q .store))

@@ -1,15 +1,80 @@
--- Rules 11, "What is promised", 11.4: what recovery gives where the whole pages are a sound log.
-use Prim.Native.Nat.{ℕ}
+-- Rules 11, "What is promised", 11.4 and 11.7: what recovery gives of a sound log, whole, cut or cut in a push; and a recovery that drops nothing.
+use Prim.Native.Nat.{ℕ, zero, suc, _+_, _-_, _*_, _/_, _≤_, _<_}
 use mathlib.Core.Path.{_≡_}
+use mathlib.Core.Logic.{_⊎_, _↔_}
 use mathlib.Core.List.{List}
-use lib.ListN.{length}
-use Rattle.page.specs.Entry.{idAt}
+use lib.Dec.{eqb}
+use lib.ListN.{length, take}
+use Rattle.refusal.specs.Pick.{pick}
+use Rattle.page.specs.Size.{pageSize, pageCount}
+use Rattle.page.specs.Mark.{markAt, byMark}
+use Rattle.page.specs.Entry.{Starting, short, cut, whole, idAt, afterAt, entryAt}
+use Rattle.log.specs.Bounds.{tooLong}
 use Rattle.log.specs.State.{fresh, recoveredAt, topId}
-use Rattle.log.specs.Recovery.{Recovering, recovered, refused}
-use Rattle.demands.specs.Sound.{Last}
+use Rattle.log.specs.Recovery.{Recovering, recovered, refused, atWhole, firstPages, excessOf, cutLog}
+use Rattle.demands.specs.Sound.{Start, Sound, Last, LastStored}
+use Rattle.demands.specs.Push.{Push, outcome, Counted, endsAt, logWith, lastOf}
 
--- 11.4 "the log's length, its last stored id and one more, with the excess; 9 exactly if that id is 2^64-1, the fresh state exactly if no page is left": of the log that is left after the cut
-pub data RightRecovery (log : List ℕ) (excess : ℕ) : Recovering → Type 0 where
-  empty : length log ≡ 0 → RightRecovery log excess (recovered fresh excess)
-  used-up : (p : ℕ) → Last log p → idAt log p ≡ topId → RightRecovery log excess (refused 9 0)
-  goes-on : (p : ℕ) → Last log p → (idAt log p ≡ topId → ⊥) → RightRecovery log excess (recovered (recoveredAt (length log) (idAt log p)) excess)
+-- 11.4 "the log's length, its last stored id and one more, with the excess; 9 exactly if that id is 2^64-1, the fresh state exactly if no page is left": of a log, after so many pages were dropped
+pub data RightRecovery (log : List ℕ) (excess dropped : ℕ) : Recovering → Type 0 where
+  empty : length log ≡ 0 → RightRecovery log excess dropped (recovered fresh excess dropped)
+  used-up : (p : ℕ) → Last log p → idAt log p ≡ topId → RightRecovery log excess dropped (refused 9 0)
+  goes-on : (p : ℕ) → Last log p → (idAt log p ≡ topId → ⊥) → RightRecovery log excess dropped (recovered (recoveredAt (length log) (idAt log p)) excess dropped)
+
+-- ---- a cut
+
+-- of a log of which the first m pages are there, so many are left
+pub record Left (log : List ℕ) (m left : ℕ) : Type 0 where
+  pub most : left ≤ m
+  -- 11.4 "exactly the entries whose pages all lie before the cut"
+  pub exact : (p : ℕ) → Start log p → (p < left) ↔ (afterAt log p ≤ m)
+  -- 11.4 "no page but those of a cut entry was dropped"
+  pub edge : (left ≡ m) ⊎ Start log left
+
+-- 11.4 "Recovery of any fewer bytes of the log .. gives the same of what is left": of n bytes
+pub record RightCut (log : List ℕ) (n : ℕ) (r : Recovering) : Type 0 where
+  pub left : ℕ
+  pub is-left : Left log (n / pageSize) left
+  pub sound : Sound (firstPages log left)
+  pub right : RightRecovery (firstPages log left) (excessOf n) (n / pageSize - left) r
+
+-- ---- a cut in a push
+
+-- 11.7 "If that log is cut at any byte from its length before the push on": at byte n; the store then, and what recovery answers there
+pub record Torn (q : Push) (n : ℕ) (store : List ℕ) (r : Recovering) : Type 0 where
+  pub kept : ℕ
+  pub counted : kept ≤ outcome q .answer .written
+  -- 11.7 "exactly those entries of the batch whose pages all lie before the cut"
+  pub exact : (j : ℕ) → Counted q j → (j < kept) ↔ (endsAt q j ≤ n)
+  -- 11.7 "what recovery finds is the log before and the pages of" those
+  pub log : take (length (logWith q kept)) store ≡ logWith q kept
+  pub sound : Sound (logWith q kept)
+  -- 11.7 "last written is the id of the last of them, or what it was"
+  pub last : LastStored (logWith q kept) (lastOf (q .state) (q .ids) kept)
+  -- 11.7 "excess and dropped pages add up to the cut"
+  pub dropped : ℕ
+  pub adds-up : length (logWith q kept) + dropped * pageSize + excessOf n ≡ n
+  -- 11.7 "next is one more .. unless that id is 2^64-1 and 9 is answered"
+  pub is : r ≡ atWhole (length (logWith q kept)) (lastOf (q .state) (q .ids) kept) (excessOf n) dropped
+
+-- ---- which pages are read
+
+-- 6.7 "only the pages from that start on are read": the entry at page p ends before the next start, and within the log
+pub record Apart (log : List ℕ) (p : ℕ) : Type 0 where
+  pub start : Start log p
+  pub before : (q : ℕ) → Start log q → p < q → afterAt log p ≤ q
+  pub within : afterAt log p ≤ pageCount log
+
+-- ---- recovery that refuses a cut entry with 7 and drops nothing
+
+unfoldable pub strictAt : ℕ → ℕ → ℕ → Starting → Recovering
+strictAt n excess s short = refused 6 s
+strictAt n excess s (cut id) = refused 7 s
+strictAt n excess s (whole id len after) = atWhole n id excess 0
+
+unfoldable pub strictBack : ℕ → List ℕ → ℕ → Recovering
+strictBack excess log zero = pick (eqb (pageCount log) 0) (recovered fresh excess 0) (refused 8 0)
+strictBack excess log (suc p) = byMark (markAt log p) (strictAt (length log) excess p (entryAt log p)) (strictBack excess log p) (refused 5 p)
+
+unfoldable pub strictOf : List ℕ → ℕ → Recovering
+strictOf store n = pick (tooLong store n) (refused 1 0) (strictBack (excessOf n) (cutLog store n) (pageCount (cutLog store n)))

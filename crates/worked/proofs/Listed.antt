@@ -13,7 +13,7 @@ use Rattle.log.specs.Bounds.{tooLong, badState}
 use Rattle.log.specs.State.{fresh, stateOf}
 use Rattle.log.specs.Guess.{leastFrom, leastShift, offsetOf}
 use Rattle.log.specs.Lookup.{Looking, found, absent, refused, allPages, guessIn, compared, sayingAt, turned, walk, search, searchOf, findOf}
-use Rattle.log.specs.Recovery.{Recovering, recovered, refused as unrecovered, atLast, walkBack, recoverLog, recoverOf}
+use Rattle.log.specs.Recovery.{Recovering, recovered, refused as unrecovered, atWhole, atStart, walkBack, recoverLog, recoverOf}
 use Rattle.pushing.specs.Push.{Why, none, refused as unpushed, Done, entryData, some, badEnd, badBatch, largeData, someLarge, wrote, turn, entriesFrom, pushOf}
 use Rattle.log.specs.declared.state.State.{State}
 use Rattle.sequence.specs.Window.{only, shifted}
@@ -39,9 +39,9 @@ ofWhy (unpushed number value) = number
 ofPush : Done → List ℕ
 ofPush r = ofWhy (r .answer .reason) ∷ r .answer .written ∷ ofState (r .answer .state)
 
--- the excess and the state
+-- the excess, the pages dropped and the state
 ofRecovery : Recovering → List ℕ
-ofRecovery (recovered st excess) = excess ∷ ofState st
+ofRecovery (recovered st excess dropped) = excess ∷ dropped ∷ ofState st
 ofRecovery (unrecovered number value) = number ∷ value ∷ []
 
 -- complete: 1 for yes, 0 for no
@@ -70,6 +70,10 @@ sixPush = pushOf (replicate 6144 0) fresh (1 ∷ 2 ∷ 3 ∷ 4 ∷ []) (replicat
 abbrev pub ninePage : List ℕ
 ninePage = entryPages 9 hello ++ replicate 6 0
 
+-- (1, "hello"), then id 2 with payload 3,000
+abbrev longPush : Done
+longPush = pushOf (replicate 4096 0) fresh (1 ∷ 2 ∷ []) (5 ∷ 2997 ∷ []) (hello ++ replicate 2992 0x78)
+
 -- complete after each of the notes 3, 1, 2, 4 from 1
 abbrev notes : List ℕ → Bool
 notes ids = completeOf (run (begun 1 (replicate 64 0)) ids .sequence)
@@ -89,6 +93,9 @@ computed =
     ∷ ofPush (pushOf (replicate 2048 0) (stateOf 0 5 1) (6 ∷ 6 ∷ []) (0 ∷ 0 ∷ []) [])
     ∷ ofRecovery (recoverOf ninePage 1030)
     ∷ (ofAnswer (notes (3 ∷ [])) ∷ ofAnswer (notes (3 ∷ 1 ∷ [])) ∷ ofAnswer (notes (3 ∷ 1 ∷ 2 ∷ [])) ∷ ofAnswer (notes (3 ∷ 1 ∷ 2 ∷ 4 ∷ [])) ∷ [])
+    ∷ ofRecovery (recoverOf (longPush .store) 3500)
+    ∷ ofRecovery (recoverOf (longPush .store) 2047)
+    ∷ ofRecovery (recoverOf (longPush .store) 1023)
     ∷ []
 
 -- each case as the rules have it
@@ -114,13 +121,17 @@ asWritten =
     ∷ (1 ∷ 3072 ∷ 0 ∷ [])
     -- 13.5: refusal 2, one entry written, last written 6
     ∷ (2 ∷ 1 ∷ 1024 ∷ 6 ∷ 1 ∷ [])
-    -- 13.7: the excess and the state
-    ∷ (6 ∷ 1024 ∷ 9 ∷ 10 ∷ [])
+    -- 13.7: the excess, no page dropped, and the state
+    ∷ (6 ∷ 0 ∷ 1024 ∷ 9 ∷ 10 ∷ [])
     -- 13.8: complete, 1 for yes
     ∷ (0 ∷ 0 ∷ 1 ∷ 1 ∷ [])
+    -- 13.9: the excess, the pages dropped and the state, of each cut
+    ∷ (428 ∷ 2 ∷ 1024 ∷ 1 ∷ 2 ∷ [])
+    ∷ (1023 ∷ 0 ∷ 1024 ∷ 1 ∷ 2 ∷ [])
+    ∷ (1023 ∷ 0 ∷ 0 ∷ 0 ∷ 1 ∷ [])
     ∷ []
 
 -- what the definitions compute is what the rules say
 pub worked : computed ≡ asWritten
-unfolding computed asWritten ofState ofLook ofWhy ofPush ofRecovery ofAnswer pagesFor pageAt numberAt bytesOf markAt lengthAt idAt entryAt filled firstPage laterPage laterPages entryPages tooLong badState leastFrom leastShift offsetOf compared sayingAt turned walk search searchOf findOf atLast walkBack recoverLog recoverOf entryData some badEnd badBatch largeData someLarge wrote turn entriesFrom pushOf only shifted rounds noteOf answered run
+unfolding computed asWritten ofState ofLook ofWhy ofPush ofRecovery ofAnswer pagesFor pageAt numberAt bytesOf markAt lengthAt idAt entryAt filled firstPage laterPage laterPages entryPages tooLong badState leastFrom leastShift offsetOf compared sayingAt turned walk search searchOf findOf atWhole atStart walkBack recoverLog recoverOf entryData some badEnd badBatch largeData someLarge wrote turn entriesFrom pushOf only shifted rounds noteOf answered run
 worked = refl

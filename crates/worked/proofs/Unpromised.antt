@@ -11,19 +11,19 @@ use Rattle.page.specs.Mark.{markAt}
 use Rattle.page.specs.Entry.{lengthAt, idAt, entryAt}
 use Rattle.page.specs.Write.{filled, firstPage, laterPage, laterPages, entryPages}
 use Rattle.log.specs.Bounds.{tooLong, badState}
-use Rattle.log.specs.State.{fresh, stateOf, takeOf}
-use Rattle.log.specs.Recovery.{recovered, atLast, walkBack, recoverLog, recoverOf}
+use Rattle.log.specs.State.{fresh, stateOf, taken, takeOf}
+use Rattle.log.specs.Recovery.{recovered, atWhole, atStart, walkBack, recoverLog, recoverOf}
 use Rattle.log.specs.Check.{refused, laterMarks, checkStart, checkPage, checkEnd, checkFrom, checkOf}
 use Rattle.log.specs.Guess.{leastFrom, leastShift, offsetOf}
 use Rattle.log.specs.Lookup.{absent, compared, sayingAt, turned, walk, search, searchOf, findOf}
 use Rattle.pushing.specs.Push.{entryData, some, badEnd, badBatch, largeData, someLarge, wrote, turn, entriesFrom, pushOf}
 use Rattle.demands.specs.Sound.{SoundStore}
 use Rattle.demands.specs.Push.{batchPages, Push, pagesOf}
-use Rattle.demands.specs.History.{World, world, logOf, take-id, recover, answer, step, run, Settled, SettledByStored}
+use Rattle.demands.specs.History.{World, world, logOf, take-id, recover, lend, cut, handed-out, anotherStore, answer, step, run, Settled, SettledByStored}
 use Rattle.demands.proofs.Last.{last-stored-greatest}
 use Rattle.demands.proofs.Check.Passing.{checked-sound}
 use Rattle.demands.proofs.History.Demands.{last-is-stored}
-use Rattle.worked.proofs.Witnessed.{store, store-is-sound, begins, begins-there, three-settled, much, pushes-four, other}
+use Rattle.worked.proofs.Witnessed.{store, store-is-sound, begins, begins-there, three-settled, pushed-five, much, pushes-four, pushes-both, other}
 
 -- ---- 12.1: what passes the sound check
 
@@ -41,27 +41,32 @@ unfolding pagesFor pageAt numberAt bytesOf markAt lengthAt idAt entryAt filled f
 unmarked-is-sound = checked-sound unmarked 4096 .0 refl
 
 -- and its id 3 is handed out again, after 2
-pub unmarked-is-lost : recoverOf unmarked 4096 ≡ recovered (stateOf 4096 1 2) 0
-unfolding pagesFor pageAt numberAt bytesOf markAt lengthAt idAt entryAt filled firstPage laterPage laterPages entryPages tooLong atLast walkBack recoverLog recoverOf
+pub unmarked-is-lost : recoverOf unmarked 4096 ≡ recovered (stateOf 4096 1 2) 0 0
+unfolding pagesFor pageAt numberAt bytesOf markAt lengthAt idAt entryAt filled firstPage laterPage laterPages entryPages tooLong atWhole atStart walkBack recoverLog recoverOf
 unmarked-is-lost = refl
 
 -- ---- 12.2: ids that come again after a restart
 
 -- one that was taken and never pushed
 pub dropped-comes-again : run begins (take-id ∷ recover ∷ take-id ∷ []) ≡ run begins (take-id ∷ [])
-unfolding pagesFor pageAt numberAt bytesOf markAt lengthAt idAt entryAt filled firstPage laterPage laterPages entryPages tooLong takeOf atLast walkBack recoverLog recoverOf answer step run
+unfolding pagesFor pageAt numberAt bytesOf markAt lengthAt idAt entryAt filled firstPage laterPage laterPages entryPages tooLong takeOf atWhole atStart walkBack recoverLog recoverOf answer step run
 dropped-comes-again = refl
 
 -- one that 4 refused
 pub refused-comes-again : run begins (take-id ∷ pushes-four much ∷ recover ∷ take-id ∷ []) ≡ run begins (take-id ∷ [])
-unfolding pagesFor pageAt numberAt bytesOf markAt lengthAt idAt entryAt filled firstPage laterPage laterPages entryPages tooLong badState takeOf atLast walkBack recoverLog recoverOf entryData some badEnd badBatch largeData someLarge wrote turn entriesFrom pushOf answer step run
+unfolding pagesFor pageAt numberAt bytesOf markAt lengthAt idAt entryAt filled firstPage laterPage laterPages entryPages tooLong badState takeOf atWhole atStart walkBack recoverLog recoverOf entryData some badEnd badBatch largeData someLarge wrote turn entriesFrom pushOf answer step run
 refused-comes-again = refl
+
+-- one of an entry that a cut took away
+pub cut-comes-again : answer (run begins (lend (replicate 3072 0) ∷ pushes-both ∷ cut 6620 (1 ∷ []) ∷ [])) take-id ≡ handed-out (taken 5 (stateOf 5120 4 6))
+unfolding pagesFor pageAt numberAt bytesOf markAt lengthAt idAt entryAt filled firstPage laterPage laterPages entryPages tooLong badState takeOf atWhole atStart walkBack recoverLog recoverOf entryData some badEnd badBatch largeData someLarge wrote turn entriesFrom pushOf anotherStore answer step run
+cut-comes-again = refl
 
 -- ---- 12.3: faults that are not told
 
 -- a bad mark on the idle page, which no recovery reads
 pub fault-unseen : recoverOf (take 1024 store ++ (7 ∷ drop 1025 store)) 4096 ≡ recoverOf store 4096
-unfolding pagesFor pageAt numberAt bytesOf markAt lengthAt idAt entryAt filled firstPage laterPage laterPages entryPages tooLong atLast walkBack recoverLog recoverOf
+unfolding pagesFor pageAt numberAt bytesOf markAt lengthAt idAt entryAt filled firstPage laterPage laterPages entryPages tooLong atWhole atStart walkBack recoverLog recoverOf
 fault-unseen = refl
 
 -- in a log that is not sound, with 5 before 3, a stored id is missed: 11.5 asks for a sound log
@@ -82,6 +87,44 @@ stale-is-sound = checked-sound stale 4096 .0 refl
 pub stale-stays : getD (pushOf stale (begins .state) (5 ∷ []) (1 ∷ []) (8 ∷ []) .store) 20 0 ≡ 5
 unfolding pagesFor pageAt bytesOf filled firstPage laterPage laterPages entryPages tooLong badState entryData some badEnd badBatch largeData someLarge wrote turn entriesFrom pushOf
 stale-stays = refl
+
+-- ---- 12.7: bytes before the cut that are not the log's
+
+-- a page of an earlier log, id 1 again, where the next entry was to be
+abbrev older : List ℕ
+older = take 4096 store ++ entryPages 1 []
+
+pub older-found : (recoverOf older 5120 ≡ recovered (stateOf 5120 1 2) 0 0) × (checkOf older 5120 ≡ refused 15 4)
+unfolding pagesFor pageAt numberAt bytesOf markAt lengthAt idAt entryAt filled firstPage laterPage laterPages entryPages tooLong atWhole atStart walkBack recoverLog recoverOf laterMarks checkStart checkPage checkEnd checkFrom checkOf
+older-found = (refl, refl)
+
+-- ---- 6.7: what is read goes further down than the last start that is whole in the log: 2, on pages 1 and 2, is cut by 3, which starts on page 2 and is cut
+
+abbrev overlapped : ℕ → List ℕ
+overlapped id = entryPages id [] ++ (take 1024 (entryPages 2 (replicate 1013 9)) ++ take 1024 (entryPages 3 (replicate 1013 9)))
+
+pub overlapped-differs : (recoverOf (overlapped 1) 3072 ≡ recovered (stateOf 1024 1 2) 0 2) × (recoverOf (overlapped 9) 3072 ≡ recovered (stateOf 1024 9 10) 0 2)
+unfolding pagesFor pageAt numberAt bytesOf markAt lengthAt idAt entryAt filled firstPage laterPage laterPages entryPages tooLong atWhole atStart walkBack recoverLog recoverOf
+overlapped-differs = (refl, refl)
+
+-- ---- 11.9 and 11.10 ask that no cut falls below: 3, settled and found, is lost by a cut in its last page, and 5 by one in its own, though both are below next again
+
+abbrev cut-three : World
+cut-three = run begins (cut 4000 [] ∷ take-id ∷ take-id ∷ [])
+
+pub three-was-settled : Settled begins 3
+three-was-settled = record { some = lit≤ tt; most = lit≤ tt; below = lit< tt }
+
+pub three-is-lost : (cut-three .state ≡ stateOf 2048 1 4) × (findOf (cut-three .store) (cut-three .state) 3 ≡ absent 2048)
+unfolding pagesFor pageAt numberAt bytesOf markAt lengthAt idAt entryAt filled firstPage laterPage laterPages entryPages tooLong badState takeOf leastFrom leastShift offsetOf compared sayingAt turned walk search searchOf findOf atWhole atStart walkBack recoverLog recoverOf answer step run
+three-is-lost = (refl, refl)
+
+abbrev cut-five : World
+cut-five = run pushed-five (cut 5000 [] ∷ take-id ∷ take-id ∷ [])
+
+pub five-is-lost : (cut-five .state ≡ stateOf 4096 3 6) × (findOf (cut-five .store) (cut-five .state) 5 ≡ absent 4096)
+unfolding pagesFor pageAt numberAt bytesOf markAt lengthAt idAt entryAt filled firstPage laterPage laterPages entryPages tooLong badState takeOf leastFrom leastShift offsetOf compared sayingAt turned walk search searchOf findOf entryData some badEnd badBatch largeData someLarge wrote turn entriesFrom pushOf atWhole atStart walkBack recoverLog recoverOf answer step run
+five-is-lost = (refl, refl)
 
 -- ---- 11.3 asks that the entries are counted: of an id and data pushed twice, the second, which is refused, leaves 255s
 

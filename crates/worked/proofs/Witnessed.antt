@@ -12,7 +12,9 @@
 --   pages-alone, earlier-hidden               5 after 9, 9, 9 over 255s, by itself after that log, after 6: five-alike, nines-hidden
 --   filling-written                           of its second page, over 255s: five-filled
 --   read-back                                 two ids are taken, and the second, 5, is pushed: five-reads-back, five-stays-read
---   recover-right, recover-alike              a length with an excess; a log that differs before its last entry: excess-recovers, recovers-alike
+--   torn, cut-at-byte, uncut-same             4 and 5 are pushed and cut in 5; a log cut without a push; one that is not cut: both-torn, four-kept, cut-in-three, whole-uncut
+--   settled, through cuts and after 9         then 3 is found as before: torn-goes-on, three-through-a-cut, three-after-nine
+--   recover-right, recover-alike              a length with an excess; logs that differ before their last whole entry: excess-recovers, recovers-alike, torn-alike
 --   complete-right, note-adds                 over words that are not zero: notes-right, three-added
 --   data-one-part                             the data of an entry of one page: five-bytes
 use Prim.Native.Nat.{ℕ, zero, suc, _+_, _-_, _≤_, _<_}
@@ -32,15 +34,15 @@ use Rattle.page.specs.Write.{filled, firstPage, laterPage, laterPages, entryPag
 use Rattle.log.specs.Round.{stop, again}
 use Rattle.log.specs.Bounds.{tooLong, badState, Fits, Good}
 use Rattle.log.specs.State.{fresh, stateOf, takeOf}
-use Rattle.demands.specs.Sound.{Start, SoundStore, Last, LastStored}
-use Rattle.demands.specs.Push.{logAfter, Holds, Ready, Push, dataIn, outcome, pagesOf, AlikeFrom}
-use Rattle.demands.specs.Recovery.{RightRecovery}
+use Rattle.demands.specs.Sound.{Start, SoundStore, Last, LastStored, last-entry}
+use Rattle.demands.specs.Push.{batchPages, logAfter, Holds, Ready, Push, dataIn, outcome, pagesOf, AlikeFrom}
+use Rattle.demands.specs.Recovery.{RightRecovery, RightCut, Torn, Apart, strictAt, strictBack, strictOf}
 use Rattle.demands.specs.Lookup.{present, missing, RightStanding, Room, RightLookup, AnyGuess, stops, narrows}
 use Rattle.demands.specs.Scan.{Enough, Scans}
 use Rattle.log.specs.Guess.{leastFrom, leastShift, offsetOf}
 use Rattle.log.specs.Lookup.{found, roundFrom, window, allPages, compared, sayingAt, turned, walk, search, searchOf, findOf, handFound, lookupOf}
 use Rattle.log.specs.Check.{laterMarks, checkStart, checkPage, checkEnd, checkFrom, checkOf}
-use Rattle.log.specs.Recovery.{cutLog, atLast, walkBack, recoverLog, recoverOf}
+use Rattle.log.specs.Recovery.{recovered, cutLog, atWhole, atStart, walkBack, recoverLog, recoverOf}
 use Rattle.pushing.specs.Push.{none, refused, point, bytesFor, Done, done, entryData, some, badEnd, badBatch, largeData, someLarge, wrote, turn, entriesFrom, pushOf}
 use Rattle.scanning.specs.Range.{holdsOf}
 use Rattle.scanning.specs.Scan.{scanOf}
@@ -48,14 +50,18 @@ use Rattle.scanning.specs.Step.{stepStart, stepPage, forward, forwardFrom, step
 use Rattle.log.specs.declared.state.State.{State}
 use Rattle.scanning.specs.declared.Range.{Range}
 use Rattle.scanning.specs.declared.End.the-variants.{Open}
-use Rattle.demands.specs.History.{World, world, logOf, Words, Call, push, take-id, find, lookup, lend, anotherStore, answer, step, run, said, Begun, Settled, SettledByStored, LooksUp, Gives, Answers, ReadsBack}
+use Rattle.demands.specs.History.{World, world, logOf, Words, Call, push, take-id, find, lookup, lend, cut, anotherStore, answer, step, run, said, AllSpare, Begun, Settled, SettledByStored, LooksUp, Gives, Answers, KeepsFull, ReadsBack}
 use Rattle.page.proofs.Runs.{data-one-part}
 use Rattle.demands.proofs.Check.Passing.{checked-sound}
 use Rattle.demands.proofs.Push.Batch.{push-right, push-last-stored, push-whole}
 use Rattle.demands.proofs.Last.{last-stored-ready}
 use Rattle.demands.proofs.Push.Retrying.{one-too-large, tried-again}
 use Rattle.demands.proofs.Push.Alone.{pages-alone, earlier-hidden, filling-written}
-use Rattle.demands.proofs.Recovery.Resuming.{recover-right, recover-alike}
+use Rattle.demands.proofs.Recovery.Cutting.{cut-at-byte}
+use Rattle.demands.proofs.Recovery.Resuming.{recover-right}
+use Rattle.demands.proofs.Recovery.Reading.{recover-alike, sound-apart}
+use Rattle.demands.proofs.Recovery.Uncut.{uncut-same}
+use Rattle.demands.proofs.Recovery.Torn.{torn}
 use Rattle.demands.proofs.History.Lasting.{standingData}
 use Rattle.demands.proofs.Lookup.AnyGuess.{any-guess-right}
 use Rattle.demands.proofs.Lookup.Right.{lookup-right}
@@ -98,8 +104,8 @@ abbrev pub begins : World
 begins = world store (stateOf 4096 3 4)
 
 pub begins-there : Begun begins
-unfolding pagesFor pageAt numberAt bytesOf markAt lengthAt idAt entryAt filled firstPage laterPage laterPages entryPages tooLong atLast walkBack recoverLog recoverOf
-begins-there = record { size = 4096; sound = store-is-sound .sound; excess = 0; is = refl }
+unfolding pagesFor pageAt numberAt bytesOf markAt lengthAt idAt entryAt filled firstPage laterPage laterPages entryPages tooLong atWhole atStart walkBack recoverLog recoverOf
+begins-there = record { size = 4096; sound = store-is-sound .sound; excess = 0; dropped = 0; is = refl }
 
 starts-there : (p : ℕ) → Start (logOf begins) p → (p ≡ 0) ⊎ (p ≡ 2)
 unfolding pagesFor pageAt bytesOf markAt filled firstPage laterPage laterPages entryPages
@@ -123,24 +129,24 @@ pub three-settled : SettledByStored begins 3
 unfolding run
 three-settled = settled-by-stored begins begins-there [] 3 .0 (settled-there 3 (lit≤ tt) (lit≤ tt))
 
-pub three-stays-settled : (later : List Call) → SettledByStored (run begins later) 3
+pub three-stays-settled : (later : List Call) → AllSpare 4096 later → SettledByStored (run begins later) 3
 unfolding run
-three-stays-settled later = settled-in-words begins begins-there [] 3 three-settled .1 later
+three-stays-settled later spare = settled-in-words begins begins-there [] 3 three-settled .1 later spare
 
--- ---- id 3 is found and id 2 is absent, through any calls
+-- ---- id 3 is found and id 2 is absent, through any calls that cut nothing below
 
-pub three-stays-found : (later : List Call) (out : List ℕ) → 1013 ≤ length out → LooksUp (answer (run begins later) (lookup 3 out)) (present 2048 1013) (replicate 1013 9 ++ drop 1013 out)
+pub three-stays-found : (later : List Call) → AllSpare 4096 later → (out : List ℕ) → 1013 ≤ length out → LooksUp (answer (run begins later) (lookup 3 out)) (present 2048 1013) (replicate 1013 9 ++ drop 1013 out)
 unfolding pagesFor pageAt numberAt bytesOf markAt lengthAt idAt entryAt placeOf dataOf dataAt filled firstPage laterPage laterPages entryPages tooLong badState leastFrom leastShift offsetOf compared sayingAt turned walk search searchOf findOf standingData settled run
-three-stays-found later out enough = settled begins begins-there [] 3 (settled-there 3 (lit≤ tt) (lit≤ tt)) .kept later .answers (lookup 3 out) refl enough
+three-stays-found later spare out enough = settled begins begins-there [] 3 (settled-there 3 (lit≤ tt) (lit≤ tt)) .kept later spare .answers (lookup 3 out) refl enough
 
-pub two-stays-absent : (later : List Call) (out : List ℕ) → LooksUp (answer (run begins later) (lookup 2 out)) (missing 2048) out
+pub two-stays-absent : (later : List Call) → AllSpare 4096 later → (out : List ℕ) → LooksUp (answer (run begins later) (lookup 2 out)) (missing 2048) out
 unfolding pagesFor pageAt numberAt bytesOf markAt lengthAt idAt entryAt filled firstPage laterPage laterPages entryPages tooLong badState leastFrom leastShift offsetOf compared sayingAt turned walk search searchOf findOf standingData settled run
-two-stays-absent later out = settled begins begins-there [] 2 (settled-there 2 (lit≤ tt) (lit≤ tt)) .kept later .answers (lookup 2 out) refl (omega arith)
+two-stays-absent later spare out = settled begins begins-there [] 2 (settled-there 2 (lit≤ tt) (lit≤ tt)) .kept later spare .answers (lookup 2 out) refl (omega arith)
 
 -- a find that is among the later calls gave it
 pub three-was-given : Gives (find 3) (answer begins (find 3)) 3 (present 2048 1013) (replicate 1013 9)
 unfolding pagesFor pageAt numberAt bytesOf markAt lengthAt idAt entryAt placeOf dataOf dataAt filled firstPage laterPage laterPages entryPages tooLong badState leastFrom leastShift offsetOf compared sayingAt turned walk search searchOf findOf standingData settled run said
-three-was-given = settled begins begins-there [] 3 (settled-there 3 (lit≤ tt) (lit≤ tt)) .gave (find 3 ∷ []) (record { call = find 3; reply = answer begins (find 3) }) (List·Memᴰ·head refl)
+three-was-given = settled begins begins-there [] 3 (settled-there 3 (lit≤ tt) (lit≤ tt)) .gave (find 3 ∷ []) (tt, tt) (record { call = find 3; reply = answer begins (find 3) }) (List·Memᴰ·head refl)
 
 -- ---- a lookup and a scan of that log, each with enough output
 
@@ -201,20 +207,20 @@ pub all-written : pushOf store (begins .state) (5 ∷ []) (1 ∷ []) (8 ∷ []) 
 unfolding pagesFor pageAt bytesOf filled firstPage laterPage laterPages entryPages tooLong badState entryData some badEnd badBatch largeData someLarge wrote turn entriesFrom pushOf
 all-written = push-whole (5 ∷ []) (1 ∷ []) (8 ∷ []) store (begins .state) refl
 
-abbrev pushed-five : World
+abbrev pub pushed-five : World
 pushed-five = step (run begins takes) pushes-five
 
-pub five-reads-back : ReadsBack pushed-five 5 (8 ∷ [])
-unfolding pagesFor pageAt bytesOf filled firstPage laterPage laterPages entryPages tooLong badState takeOf entryData some badEnd badBatch largeData someLarge wrote turn entriesFrom pushOf answer step run
+pub five-reads-back : ReadsBack pushed-five 5 (8 ∷ []) 5120
+unfolding pagesFor pageAt bytesOf filled firstPage laterPage laterPages entryPages tooLong badState takeOf entryData some badEnd badBatch largeData someLarge wrote turn entriesFrom pushOf batchPages answer step run
 five-reads-back = read-back begins begins-there takes (5 ∷ []) (1 ∷ []) (8 ∷ []) one-word 0 (lit< tt)
 
 five-settled : Settled pushed-five 5
 unfolding pagesFor bytesOf filled firstPage laterPage laterPages entryPages tooLong badState takeOf entryData some badEnd badBatch largeData someLarge wrote turn entriesFrom pushOf answer step run
 five-settled = record { some = lit≤ tt; most = lit≤ tt; below = lit< tt }
 
-pub five-stays-read : (later : List Call) → Answers (run pushed-five later) 5 (present (five-reads-back .position) 1) (8 ∷ [])
-unfolding run
-five-stays-read later = five-reads-back .reads later (settled begins begins-there (take-id ∷ take-id ∷ pushes-five ∷ []) 5 five-settled .kept later .settled .below)
+pub five-stays-read : (later : List Call) → AllSpare 5120 later → Answers (run pushed-five later) 5 (present (five-reads-back .position) 1) (8 ∷ [])
+unfolding pagesFor bytesOf filled firstPage laterPage laterPages entryPages tooLong badState takeOf entryData some badEnd badBatch largeData someLarge wrote turn entriesFrom pushOf answer step run
+five-stays-read later spare = five-reads-back .reads later spare (settled begins begins-there (take-id ∷ take-id ∷ pushes-five ∷ []) 5 five-settled .kept later spare .settled .below)
 
 -- ---- 4 is pushed with more than the two pages of room hold; then again with a byte, or as it was in a longer store
 
@@ -267,6 +273,88 @@ four-is-last = last-is-stored begins begins-there (take-id ∷ pushes-four much 
 pub five-is-last : LastStored (logAfter (pushOf store (begins .state) (5 ∷ []) (1 ∷ []) (8 ∷ []))) 5
 unfolding pagesFor bytesOf filled firstPage laterPage laterPages entryPages tooLong badState entryData some badEnd badBatch largeData someLarge wrote turn entriesFrom pushOf
 five-is-last = let i = begun-lives begins begins-there in push-last-stored (5 ∷ []) (1 ∷ []) (8 ∷ []) one-word store (begins .state) (i .good) (i .last)
+
+-- ---- 4 with a byte and 5 on two pages are pushed, and cut in the second page of 5, whatever then lies beyond
+
+pub two-words : Words (4 ∷ 5 ∷ [])
+two-words zero = lit< tt
+two-words (suc zero) = lit< tt
+two-words (suc (suc k)) = lit< tt
+
+abbrev pub both : List ℕ
+both = 8 ∷ twoPages
+
+abbrev pub pushes-both : Call
+pushes-both = push (4 ∷ 5 ∷ []) (1 ∷ 1014 ∷ []) both two-words
+
+abbrev cut-push : Push
+cut-push = record { store = store ++ page-more; state = begins .state; ids = 4 ∷ 5 ∷ []; ends = 1 ∷ 1014 ∷ []; bytes = both }
+
+longer-sound : SoundStore (store ++ page-more) 4096
+unfolding pagesFor pageAt numberAt bytesOf markAt lengthAt idAt entryAt filled firstPage laterPage laterPages entryPages tooLong laterMarks checkStart checkPage checkEnd checkFrom checkOf
+longer-sound = checked-sound (store ++ page-more) 4096 .0 refl
+
+last-is-three : LastStored (take 4096 (store ++ page-more)) 3
+unfolding pagesFor pageAt numberAt bytesOf markAt lengthAt idAt filled firstPage laterPage laterPages entryPages
+last-is-three = last-entry 2 last-there refl
+
+pub both-torn : (rest : List ℕ) → Fits (take 6620 (outcome cut-push .store) ++ rest) 6620
+    → Torn cut-push 6620 (take 6620 (outcome cut-push .store) ++ rest) (recoverOf (take 6620 (outcome cut-push .store) ++ rest) 6620)
+unfolding pagesFor bytesOf filled firstPage laterPage laterPages entryPages tooLong badState entryData some badEnd badBatch largeData someLarge wrote turn entriesFrom pushOf
+both-torn rest fits = torn cut-push two-words longer-sound last-is-three 6620 (lit≤ tt) (lit≤ tt) rest fits
+
+-- with a byte beyond: 4 is kept, a page and 476 bytes of 5 are not
+pub four-kept : recoverOf (take 6620 (outcome cut-push .store) ++ (1 ∷ [])) 6620 ≡ recovered (stateOf 5120 4 5) 476 1
+unfolding pagesFor pageAt numberAt bytesOf markAt lengthAt idAt entryAt filled firstPage laterPage laterPages entryPages tooLong badState entryData some badEnd badBatch largeData someLarge wrote turn entriesFrom pushOf atWhole atStart walkBack recoverLog recoverOf
+four-kept = refl
+
+-- a store that differs before 4, the last whole entry, recovers alike
+abbrev torn-store : List ℕ
+torn-store = take 6620 (outcome cut-push .store) ++ (1 ∷ [])
+
+four-apart : Apart (cutLog torn-store 6620) 4
+unfolding pagesFor pageAt numberAt bytesOf markAt lengthAt filled firstPage laterPage laterPages entryPages tooLong badState entryData some badEnd badBatch largeData someLarge wrote turn entriesFrom pushOf
+four-apart = record { start = record { inside = lit< tt; marked = refl }; before = λ q h l. l; within = lit≤ tt }
+
+pub torn-alike : recoverOf torn-store 6620 ≡ recoverOf (entryPages 1 (6 ∷ []) ++ drop 1024 torn-store) 6620
+unfolding pagesFor bytesOf filled firstPage laterPage laterPages entryPages tooLong badState entryData some badEnd badBatch largeData someLarge wrote turn entriesFrom pushOf
+torn-alike =
+    recover-alike torn-store (entryPages 1 (6 ∷ []) ++ drop 1024 torn-store) 6620 4
+    (record { small = lit≤ tt; inside = lit≤ tt }) (record { small = lit≤ tt; inside = lit≤ tt }) four-apart refl
+
+-- in a history: a longer store is lent, both are pushed, the log is cut there, 5 is handed out again
+abbrev torn-calls : List Call
+torn-calls = lend (replicate 3072 0) ∷ pushes-both ∷ cut 6620 (1 ∷ []) ∷ take-id ∷ []
+
+pub torn-goes-on : (run begins torn-calls .state ≡ stateOf 5120 4 6) × AllSpare 4096 torn-calls
+unfolding pagesFor pageAt numberAt bytesOf markAt lengthAt idAt entryAt filled firstPage laterPage laterPages entryPages tooLong badState takeOf entryData some badEnd badBatch largeData someLarge wrote turn entriesFrom pushOf atWhole atStart walkBack recoverLog recoverOf anotherStore answer step run
+torn-goes-on = (refl, (tt, (tt, (lit≤ tt, (tt, tt)))))
+
+-- where 3 is found as before
+pub three-through-a-cut : (out : List ℕ) → 1013 ≤ length out → LooksUp (answer (run begins torn-calls) (lookup 3 out)) (present 2048 1013) (replicate 1013 9 ++ drop 1013 out)
+three-through-a-cut = three-stays-found torn-calls (torn-goes-on .1)
+
+-- the last id of all is pushed: recovery of the log then answers 9, and with a state made up of its length and that id 3 is still found as before
+pub top-word : Words (0xffffffffffffffff ∷ [])
+top-word zero = lit< tt
+top-word (suc k) = lit< tt
+
+abbrev pushes-top : Call
+pushes-top = push (0xffffffffffffffff ∷ []) (0 ∷ []) [] top-word
+
+pub three-after-nine : KeepsFull (run begins (pushes-top ∷ [])) 5120 [] 3 (present 2048 1013) (replicate 1013 9)
+unfolding pagesFor pageAt numberAt bytesOf markAt lengthAt idAt entryAt placeOf dataOf dataAt filled firstPage laterPage laterPages entryPages tooLong badState leastFrom leastShift offsetOf compared sayingAt turned walk search searchOf findOf entryData some badEnd badBatch largeData someLarge wrote turn entriesFrom pushOf atWhole atStart walkBack recoverLog recoverOf standingData settled answer step run
+three-after-nine = settled begins begins-there [] 3 (settled-there 3 (lit≤ tt) (lit≤ tt)) .full (pushes-top ∷ []) (tt, tt) 5120 [] (lit≤ tt) refl (lit< tt)
+
+-- the log cut without a push, in its last entry
+pub cut-in-three : RightCut (logOf begins) 3500 (recoverOf (take 3500 (logOf begins) ++ []) 3500)
+unfolding pagesFor bytesOf filled firstPage laterPage laterPages entryPages
+cut-in-three = cut-at-byte (logOf begins) (store-is-sound .sound) 3500 (lit≤ tt) [] (record { small = lit≤ tt; inside = lit≤ tt })
+
+-- nothing is cut off the whole log
+pub whole-uncut : recoverOf store 4096 ≡ strictOf store 4096
+unfolding pagesFor pageAt numberAt bytesOf markAt lengthAt idAt entryAt filled firstPage laterPage laterPages entryPages tooLong atWhole strictAt strictBack strictOf
+whole-uncut = uncut-same store 4096 (λ s e. absurd (let z : _≡_ {A = ℕ} 0 1 = cc in omega arith))
 
 -- ---- 13.6, of any 16,777,208 bytes and any store with last written 6
 
@@ -358,7 +446,7 @@ nine-fits : Fits ninePage 1030
 unfolding pagesFor bytesOf filled firstPage laterPage laterPages entryPages
 nine-fits = record { small = nine-sound .fits .small; inside = lit≤ tt }
 
-pub excess-recovers : RightRecovery (take 1024 ninePage) 6 (recoverOf ninePage 1030)
+pub excess-recovers : RightRecovery (take 1024 ninePage) 6 0 (recoverOf ninePage 1030)
 excess-recovers = recover-right ninePage 1030 nine-fits (nine-sound .sound)
 
 -- ---- a log whose first entry has another byte recovers alike: it agrees from page 2 on, where the last entry starts
@@ -375,7 +463,7 @@ unfolding pagesFor bytesOf filled firstPage laterPage laterPages entryPages
 same-from-there = refl
 
 pub recovers-alike : recoverOf store 4096 ≡ recoverOf other 4096
-recovers-alike = recover-alike store other 4096 2 (store-is-sound .fits) fits-there (last-there .start) same-from-there
+recovers-alike = recover-alike store other 4096 2 (store-is-sound .fits) fits-there (sound-apart (logOf begins) (store-is-sound .sound) 2 (last-there .start)) same-from-there
 
 -- ---- the data of the entry on that page of id 9 is a part of the log
 

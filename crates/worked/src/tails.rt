@@ -78,6 +78,38 @@ byte 2051 8
 byte 2059 7
 check 4096 4096 a start inside an entry
 check 4096 3072 a start inside the last entry
+byte 2050 4
+check 4096 3072 a cut entry inside another
+check 4096 3500 the same with an excess
+byte 2 4
+check 4096 3072 every entry cut
+byte 2 0
+byte 3 7
+check 4096 3072 a short entry before two cut ones
+byte 3 8
+byte 4 255
+byte 5 255
+byte 6 255
+byte 7 255
+byte 8 255
+byte 9 255
+byte 10 255
+byte 11 255
+check 4096 3072 id 2^64-1 before two cut entries
+byte 4 0
+byte 5 0
+byte 6 0
+byte 7 0
+byte 8 0
+byte 9 0
+byte 10 0
+byte 11 1
+byte 0 0
+check 4096 3072 no start before two cut entries
+byte 0 2
+check 4096 3072 a bad mark before two cut entries
+byte 0 1
+byte 2050 0
 byte 2048 0
 byte 2051 0
 byte 2059 0
@@ -127,8 +159,13 @@ fn say_checked(checked: Checked) {
 
 pub fn say_recovered(recovered: Recovered) {
     match recovered {
-        Recovered::At { state, excess } => {
+        Recovered::At {
+            state,
+            excess,
+            dropped,
+        } => {
             say::one(b"excess #, ", excess);
+            say::one(b"dropped #, ", dropped);
             say::state(b"state #, #, #", state);
         }
         Recovered::Refused(r) => say::refusal(r),

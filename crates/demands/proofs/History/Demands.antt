@@ -1,28 +1,34 @@
 -- Demand 3, and the last sentence of demand 2. Assumes nothing.
-use Prim.Native.Nat.{ℕ, _-_, _*_, _/_, _≤_, _<_}
+use Prim.Native.Nat.{ℕ, suc, _-_, _*_, _/_, _≤_, _<_}
 use mathlib.Core.Path.{_≡_, refl, sym, ap, _∙_, subst}
 use mathlib.Core.Logic.{_↔_, ⊎-elim}
 use mathlib.Core.List.{List, [], _∷_, _++_, List·Memᴰ, List·Memᴰ·not-nil, List·Memᴰ·cases-cons}
 use native.Mathlib.Omega.{arith}
-use lib.ListN.{length, getD}
+use lib.ListN.{length, getD, take}
 use Rattle.page.specs.Size.{pageSize}
 use Rattle.page.specs.Entry.{dataLengthAt}
 use Rattle.log.specs.Bounds.{Fits}
-use Rattle.pushing.specs.Push.{entryData, pushOf}
-use Rattle.log.specs.Recovery.{excessOf, cutLog}
+use Rattle.pushing.specs.Push.{entryData}
+use Rattle.log.specs.State.{topId}
+use Rattle.log.specs.Recovery.{refused, excessOf, cutLog, recoverOf}
 use Rattle.log.specs.Lookup.{findOf}
 use Rattle.log.proofs.Laws.Bounds.{length-log}
 use Rattle.demands.specs.Sound.{Sound, LastStored, nothing-stored, last-entry}
-use Rattle.demands.specs.Push.{Holds}
+use Rattle.demands.specs.Push.{outcome, Counted, endsAt, logWith, Holds}
+use Rattle.demands.specs.Recovery.{Torn}
 use Rattle.demands.specs.Lookup.{Standing, present, standing, RightStanding}
-use Rattle.demands.specs.History.{World, logOf, Words, Call, push, step, answer, run, Said, said, Begun, Settled, SettledByStored, Answer, Gives, Answers, Keeps, KeepsFirst, ReadsBack}
+use Rattle.demands.specs.History.{World, logOf, Words, Call, push, pushing, keptOf, step, answer, run, Said, said, AllSpare, Begun, Settled, SettledByStored, Answer, Gives, Answers, Keeps, KeepsFull, KeepsFirst, ReadsBack}
 use Rattle.demands.proofs.Lookup.Right.{find-right, find-stored, right-unique}
-use Rattle.demands.proofs.Last.{last-stored-greatest, last-stored-ready}
+use Rattle.demands.proofs.Sound.{sound-length}
+use Rattle.demands.proofs.Last.{last-stored-greatest, last-stored-rises, last-stored-ready}
 use Rattle.demands.proofs.Push.Appending.{holds-kept}
-use Rattle.demands.proofs.Push.Batch.{push-right}
+use Rattle.demands.proofs.Push.Places.{length-with, begins-with, sound-with, held-with}
 use Rattle.demands.proofs.Recovery.Resuming.{Resumed, recovered-fits, recovered-resumes}
+use Rattle.demands.proofs.Recovery.Torn.{torn}
 use Rattle.demands.proofs.History.Lasting.{right-grows, standingData, data-grows, right-exact, right-answers}
-use Rattle.demands.proofs.History.Moving.{Grows, Lives, Moved, moved, moved-run}
+use Rattle.demands.proofs.History.Living.{Grows, Lives, Over}
+use Rattle.demands.proofs.History.Cuts.{cut-full}
+use Rattle.demands.proofs.History.Moving.{Moved, lives-step, lives-run, over-run, moved-run}
 
 -- ---- where a history begins
 
@@ -31,10 +37,10 @@ module _ (w : World) (b : Begun w) where
   begun-log = cutLog (w .store) (b .size)
 
   fits : Fits (w .store) (b .size)
-  fits = recovered-fits (w .store) (b .size) (w .state) (b .excess) (b .is)
+  fits = recovered-fits (w .store) (b .size) (w .state) (b .excess) (b .dropped) (b .is)
 
   resumed : Resumed begun-log (w .state)
-  resumed = recovered-resumes (w .store) (b .size) (w .state) (b .excess) (b .sound) (b .is) .0
+  resumed = recovered-resumes (w .store) (b .size) (w .state) (b .excess) (b .dropped) (b .sound) (b .is)
 
   -- the recovered length is the log's
   pub same-length : w .state .length ≡ b .size - excessOf (b .size)
@@ -53,7 +59,7 @@ module _ (w : World) (b : Begun w) where
 -- ---- 11.8: through any calls last written is the id of the last entry stored
 
 pub last-is-stored : (w : World) → Begun w → (calls : List Call) → LastStored (logOf (run w calls)) (run w calls .state .last)
-last-is-stored w b calls = moved-run w calls (begun-lives w b) .lives .last
+last-is-stored w b calls = lives-run w (begun-lives w b) calls .last
 
 -- so settled by the one is settled by the other
 module _ (w : World) (i : Lives w) (id : ℕ) where
@@ -69,7 +75,7 @@ module _ (w : World) (i : Lives w) (id : ℕ) where
 
 pub settled-by-stored : (w : World) → Begun w → (calls : List Call) (id : ℕ) → Settled (run w calls) id ↔ SettledByStored (run w calls) id
 settled-by-stored w b calls id =
-    let i = moved-run w calls (begun-lives w b) .lives in
+    let i = lives-run w (begun-lives w b) calls in
     (to-stored (run w calls) i id, from-stored (run w calls) i id)
 
 -- ---- the first answer
@@ -81,10 +87,10 @@ standsIn w id = standing (findOf (w .store) (w .state) id)
 right-there : (w : World) → Lives w → (id : ℕ) → 1 ≤ id → id < w .state .next → RightStanding (logOf w) id (standsIn w id)
 right-there w i id some below = find-right (w .store) (w .state) id (i .good) some below
 
--- what an id that is settled now gives after any calls
-module _ (w v : World) (i : Lives w) (m : Moved w v) (id : ℕ) (h : Settled w id) where
-  sound-grown : Sound (logOf w ++ m .grows .more)
-  sound-grown = rw (m .grows .is) at (m .lives .good .sound)
+-- what an id that is settled now gives in any world over this one, where it still is
+module _ (w v : World) (i : Lives w) (o : Over (logOf w) v) (id : ℕ) (h : Settled w id) (k : Settled v id) where
+  sound-grown : Sound (logOf w ++ o .grows .more)
+  sound-grown = rw (o .grows .is) at (o .lives .good .sound)
 
   right-before : RightStanding (logOf w) id (standsIn w id)
   right-before = right-there w i id (h .some) (h .below)
@@ -92,61 +98,88 @@ module _ (w v : World) (i : Lives w) (m : Moved w v) (id : ℕ) (h : Settled w i
   right-after : RightStanding (logOf v) id (standsIn w id)
   right-after =
       let l = to-stored w i id h in
-      rw (m .grows .is) (right-grows (logOf w) (m .grows .more) sound-grown id (l .page) (l .last .start) (l .most) (standsIn w id) right-before)
+      rw (o .grows .is) (right-grows (logOf w) (o .grows .more) sound-grown id (l .page) (l .last .start) (l .most) (standsIn w id) right-before)
 
   -- it stands where it stood
   pub same-answer : standsIn v id ≡ standsIn w id
-  same-answer = right-unique (logOf v) (m .lives .good .sound) id (standsIn v id) (standsIn w id) (right-there v (m .lives) id (h .some) (m .settled id h .below)) right-after
+  same-answer = right-unique (logOf v) (o .lives .good .sound) id (standsIn v id) (standsIn w id) (right-there v (o .lives) id (k .some) (k .below)) right-after
 
   same-data : standingData (logOf v) (standsIn w id) ≡ standingData (logOf w) (standsIn w id)
-  same-data = rw (m .grows .is) (data-grows (logOf w) (m .grows .more) (i .good .sound) id (standsIn w id) right-before)
+  same-data = rw (o .grows .is) (data-grows (logOf w) (o .grows .more) (i .good .sound) id (standsIn w id) right-before)
 
-  pub kept-answer : Keeps v id (standsIn w id) (standingData (logOf w) (standsIn w id))
+  kept-answer : Keeps v id (standsIn w id) (standingData (logOf w) (standsIn w id))
   kept-answer = record {
-    settled = m .settled id h;
+    settled = k;
     answers = rw same-data at (right-answers v id (standsIn w id) same-answer right-after);
     exact = rw same-data at (right-exact (logOf v) id (standsIn w id) right-after);
   }
 
+-- after any calls that spare this world's log
+module _ (v : World) (i : Lives v) (id : ℕ) (h : Settled v id) (later : List Call) (spare : AllSpare (v .state .length) later) where
+  abbrev now : World
+  now = run v later
+
+  moves : Moved v now
+  moves = moved-run v i later spare
+
+  pub kept-later : Keeps now id (standsIn v id) (standingData (logOf v) (standsIn v id))
+  kept-later = kept-answer v now i (moves .over) id h (moves .settled id h)
+
+  -- and after a cut then that recovery answers with 9
+  pub kept-full : (n : ℕ) (rest : List ℕ) → v .state .length ≤ n → recoverOf (keptOf now n ++ rest) (length (keptOf now n)) ≡ refused 9 0 → id < topId
+      → KeepsFull now n rest id (standsIn v id) (standingData (logOf v) (standsIn v id))
+  kept-full n rest l e below =
+      let f = cut-full (logOf v) (i .good .sound) now (moves .over) n (rw (sound-length (i .good)) l) rest e in
+      let g = f .over .grows in
+      let rises = last-stored-rises (logOf v) (g .more) (rw (g .is) at (f .over .lives .good .sound)) (v .state .last) topId (i .last) (rw (g .is) at (f .over .lives .last)) in
+      record {
+        left = f .left;
+        is-left = f .is-left;
+        keeps = kept-answer v _ i (f .over) id h (record { some = h .some; most = omega (arith, h .most, rises); below = below });
+      }
+
 -- ---- every call of a history
 
 -- a call of the sequence was answered in the world that the calls before it left
-pub record AnsweredIn (w : World) (x : Said) : Type 0 where
+pub record AnsweredIn (w : World) (calls : List Call) (x : Said) : Type 0 where
   pub earlier : List Call
   pub is : x .reply ≡ answer (run w earlier) (x .call)
+  -- which spare what all of them spare
+  pub spare : (bytes : ℕ) → AllSpare bytes calls → AllSpare bytes earlier
 
-pub answered-in : (w : World) (calls : List Call) (x : Said) → List·Memᴰ x (said w calls) → AnsweredIn w x
+pub answered-in : (w : World) (calls : List Call) (x : Said) → List·Memᴰ x (said w calls) → AnsweredIn w calls x
 unfolding run said
 answered-in w [] x m = absurd (List·Memᴰ·not-nil m)
 answered-in w (c ∷ cs) x m = ⊎-elim
-    (λ e. record { earlier = []; is = ap (λ (y : Said). y .reply) e ∙ ap (λ (y : Said). answer w (y .call)) (sym e) })
-    (λ i. let a = answered-in (step w c) cs x i in record { earlier = c ∷ a .earlier; is = a .is })
+    (λ e. record { earlier = []; is = ap (λ (y : Said). y .reply) e ∙ ap (λ (y : Said). answer w (y .call)) (sym e); spare = λ bytes s. tt })
+    (λ i. let a = answered-in (step w c) cs x i in record { earlier = c ∷ a .earlier; is = a .is; spare = λ bytes s. (s .0, a .spare bytes (s .1)) })
     (List·Memᴰ·cases-cons m)
 
 -- DEMAND 3, 11.10: through any sequence of calls, refused ones included, from a sound log and its recovered state, a settled id keeps its first answer: found exactly if it is stored
 unfoldable pub settled : (w : World) → Begun w → (earlier : List Call) (id : ℕ) → Settled (run w earlier) id → KeepsFirst (run w earlier) id
 settled w b earlier id h =
     let v = run w earlier in
-    let i = moved-run w earlier (begun-lives w b) .lives in
+    let i = lives-run w (begun-lives w b) earlier in
     let s = standsIn v id in
     let d = standingData (logOf v) (standsIn v id) in
     record {
       stands = s;
       data-is = d;
-      kept = λ later. kept-answer v (run v later) i (moved-run v later i) id h;
-      gave = λ later x m.
+      kept = kept-later v i id h;
+      gave = λ later spare x m.
           let a = answered-in v later x m in
-          subst (λ (r : Answer). Gives (x .call) r id s d) (sym (a .is)) (kept-answer v (run v (a .earlier)) i (moved-run v (a .earlier) i) id h .answers (x .call));
+          subst (λ (r : Answer). Gives (x .call) r id s d) (sym (a .is)) (kept-later v i id h (a .earlier) (a .spare (v .state .length) spare) .answers (x .call));
+      full = kept-full v i id h;
     }
 
 -- DEMAND 3 in its own words: settled by the last entry stored, it stays so, and keeps its first answer
 pub settled-in-words : (w : World) → Begun w → (earlier : List Call) (id : ℕ) → SettledByStored (run w earlier) id
-    → KeepsFirst (run w earlier) id × ((later : List Call) → SettledByStored (run (run w earlier) later) id)
+    → KeepsFirst (run w earlier) id × ((later : List Call) → AllSpare (run w earlier .state .length) later → SettledByStored (run (run w earlier) later) id)
 settled-in-words w b earlier id s =
     let v = run w earlier in
-    let i = moved-run w earlier (begun-lives w b) .lives in
+    let i = lives-run w (begun-lives w b) earlier in
     let h = from-stored v i id s in
-    (settled w b earlier id h, λ later. let m = moved-run v later i in to-stored (run v later) (m .lives) id (m .settled id h))
+    (settled w b earlier id h, λ later spare. let m = moved-run v i later spare in to-stored (run v later) (m .over .lives) id (m .settled id h))
 
 -- ---- reading back
 
@@ -168,21 +201,38 @@ held-on : {a b : List ℕ} → Grows a b → Sound a → {id : ℕ} {d : List �
 unfolding holds-kept
 held-on {a} {b} g s {id} {d} h = rw (g .is) (holds-kept a (g .more) id d s h, refl)
 
--- 11.9: from a sound log and its recovered state, after any calls, each entry that a push counts as written
+-- 11.9: from a sound log and its recovered state, after any calls, each entry that a push counts as written, as long as no cut falls before the end of its pages
 pub read-back : (w : World) → Begun w → (earlier : List Call) (ids ends bytes : List ℕ) (words : Words ids) (k : ℕ)
-    → k < pushOf (run w earlier .store) (run w earlier .state) ids ends bytes .answer .written
-    → ReadsBack (step (run w earlier) (push ids ends bytes words)) (getD ids k 0) (entryData ends bytes k)
+    → Counted (pushing (run w earlier) ids ends bytes) k
+    → ReadsBack (step (run w earlier) (push ids ends bytes words)) (getD ids k 0) (entryData ends bytes k) (endsAt (pushing (run w earlier) ids ends bytes) k)
 unfolding step answer
-read-back w b earlier ids ends bytes words k l =
+read-back w b earlier ids ends bytes words k c =
     let v = run w earlier in
-    let i = moved-run w earlier (begun-lives w b) .lives in
+    let i = lives-run w (begun-lives w b) earlier in
+    let q = pushing v ids ends bytes in
+    let ready = last-stored-ready (v .store) (v .state) (i .good) (i .last) in
     let u = step v (push ids ends bytes words) in
-    let j = moved v i (push ids ends bytes words) .lives in
-    let h = push-right ids ends bytes words (v .store) (v .state) (last-stored-ready (v .store) (v .state) (i .good) (i .last)) .held k l in
+    let base = logWith q (suc k) in
+    let sound = sound-with q words ready (suc k) c in
+    let h = held-with q words ready k c in
+    let front = begins-with q words ready (suc k) c in
+    let there : Over base u = record { lives = lives-step v i (push ids ends bytes words); grows = record { more = front .rest; is = front .is } } in
     record {
       position = h .page * pageSize;
-      reads = λ later below.
-          let m = moved-run u later j in
-          let g = held-on (m .grows) (j .good .sound) h in
-          rw (g .1) at (held-answers (run u later) (m .lives) (getD ids k 0) (entryData ends bytes k) (g .0) below);
+      reads = λ later spare below.
+          let o = over-run base sound u there later (rw (length-with q words ready (suc k)) spare) in
+          let g = held-on (o .grows) sound h in
+          rw (g .1) at (held-answers (run u later) (o .lives) (getD ids k 0) (entryData ends bytes k) (g .0) below);
     }
+
+-- ---- a push in a history that is cut
+
+-- 11.7: from a sound log and its recovered state, after any calls, a push of any batch that is cut at any byte
+pub torn-in-history : (w : World) → Begun w → (earlier : List Call) (ids ends bytes : List ℕ) → Words ids → (n : ℕ)
+    → run w earlier .state .length ≤ n → n ≤ outcome (pushing (run w earlier) ids ends bytes) .answer .state .length
+    → (rest : List ℕ) → Fits (take n (outcome (pushing (run w earlier) ids ends bytes) .store) ++ rest) n
+    → Torn (pushing (run w earlier) ids ends bytes) n (take n (outcome (pushing (run w earlier) ids ends bytes) .store) ++ rest)
+    (recoverOf (take n (outcome (pushing (run w earlier) ids ends bytes) .store) ++ rest) n)
+torn-in-history w b earlier ids ends bytes words =
+    let i = lives-run w (begun-lives w b) earlier in
+    torn (pushing (run w earlier) ids ends bytes) words (i .good) (i .last)

@@ -1,11 +1,12 @@
--- What every call keeps: the log stays sound and only grows, and a settled id stays settled. Assumes nothing.
+-- What every call keeps: the log stays sound, its front grows or stays as long as no cut falls into it, and an id settled by then stays settled. Assumes nothing.
 use Prim.Native.Nat.{ℕ, _+_, _<_}
 use mathlib.Core.Path.{_≡_, refl, sym, _∙_}
 use mathlib.Core.Bool.{Bool, true, false}
-use mathlib.Core.List.{List, [], _∷_, _++_, append-assoc, append-nil}
+use mathlib.Core.Logic.{_⊎_, inl, inr, ⊎-elim}
+use mathlib.Core.List.{List, [], _∷_, _++_, append-nil}
 use native.Mathlib.Omega.{arith}
 use lib.Dec.{eqb}
-use lib.ListN.{take}
+use lib.ListN.{length, take}
 use lib.Seq.{take-at}
 use Rattle.refusal.specs.Pick.{pick}
 use Rattle.log.specs.Bounds.{tooLong}
@@ -14,52 +15,48 @@ use Rattle.pushing.specs.Push.{pushOf}
 use Rattle.log.specs.Recovery.{Recovering, recoverOf, excessOf}
 use Rattle.log.specs.declared.state.State.{State}
 use Rattle.log.proofs.Laws.Bounds.{fitting}
-use Rattle.demands.specs.Sound.{SoundStore, LastStored}
+use Rattle.demands.specs.Sound.{Sound}
 use Rattle.demands.specs.Push.{batchPages}
 use Rattle.demands.specs.Recovery.{RightRecovery}
-use Rattle.demands.specs.History.{World, world, logOf, Words, Call, push, take-id, find, lookup, scan, step-on, recover, lend, anotherStore, answer, stateAfterTake, stateAfterRecovery, step, run, Settled}
+use Rattle.demands.specs.History.{World, world, logOf, Words, Call, push, take-id, find, lookup, scan, step-on, recover, lend, cut, anotherStore, answer, stateAfterTake, stateAfterRecovery, step, run, Spares, AllSpare, Settled}
 use Rattle.demands.proofs.Sound.{sound-good, sound-length}
 use Rattle.demands.proofs.Last.{last-stored-unique, last-stored-rises, last-stored-ready}
 use Rattle.demands.proofs.Push.Batch.{push-grows, push-right, push-last-stored}
+use Rattle.demands.proofs.Front.{sound-front}
 use Rattle.demands.proofs.Recovery.Resuming.{uncut, recover-right, by-recovery}
+use Rattle.demands.proofs.History.Living.{grows-none, grows-then, Lives, Over}
+use Rattle.demands.proofs.History.Cuts.{CutLeaves, not-gone-on, gone-on, cut-leaves}
 
--- ---- a log that grew
+-- ---- a world after another: it stands over that one's log, and every id settled there is settled here
 
-pub record Grows (log later : List ℕ) : Type 0 where
-  pub more : List ℕ
-  pub is : later ≡ log ++ more
-
-grows-none : (log : List ℕ) → Grows log log
-grows-none log = record { more = []; is = sym (append-nil log) }
-
-grows-then : {a b c : List ℕ} → Grows a b → Grows b c → Grows a c
-grows-then {a} g h = record { more = g .more ++ h .more; is = h .is ∙ rw (g .is) (append-assoc a (g .more) (h .more)) }
-
--- ---- what holds in a history that began with a recovered state
-
-pub record Lives (w : World) : Type 0 where
-  pub good : SoundStore (w .store) (w .state .length)
-  -- last written is the id of the last entry stored
-  pub last : LastStored (logOf w) (w .state .last)
-
--- what calls leave of it
 pub record Moved (w v : World) : Type 0 where
-  pub lives : Lives v
-  pub grows : Grows (logOf w) (logOf v)
+  pub over : Over (logOf w) v
   pub settled : (id : ℕ) → Settled w id → Settled v id
 
-moved-none : (w : World) → Lives w → Moved w w
-moved-none w i = record { lives = i; grows = grows-none (logOf w); settled = λ id h. h }
+pub moved-none : (w : World) → Lives w → Moved w w
+moved-none w i = record { over = record { lives = i; grows = grows-none (logOf w) }; settled = λ id h. h }
+
+over-then : {base : List ℕ} {w v : World} → Over base w → Moved w v → Over base v
+over-then o m = record { lives = m .over .lives; grows = grows-then (o .grows) (m .over .grows) }
 
 moved-then : {w v u : World} → Moved w v → Moved v u → Moved w u
-moved-then m n = record { lives = n .lives; grows = grows-then (m .grows) (n .grows); settled = λ id h. n .settled id (m .settled id h) }
+moved-then m n = record { over = over-then (m .over) n; settled = λ id h. n .settled id (m .settled id h) }
+
+-- ---- one call that is no cut
+
+pub record IsCut (c : Call) : Type 0 where
+  pub bytes : ℕ
+  pub rest : List ℕ
+  pub is : c ≡ cut bytes rest
 
 -- next alone moved
 restated : (w : World) (st : State) → Lives w → st .length ≡ w .state .length → st .last ≡ w .state .last
     → ((id : ℕ) → Settled w id → id < st .next) → Moved w (world (w .store) st)
 restated w st i e l next = record {
-  lives = record { good = rw e (i .good); last = rw (e, l) (i .last) };
-  grows = record { more = []; is = rw e (sym (append-nil (logOf w))) };
+  over = record {
+    lives = record { good = rw e (i .good); last = rw (e, l) (i .last) };
+    grows = record { more = []; is = rw e (sym (append-nil (logOf w))) };
+  };
   settled = λ id h. record { some = h .some; most = omega (arith, h .most); below = next id h };
 }
 
@@ -72,8 +69,7 @@ module _ (w : World) (i : Lives w) where
       let last = push-last-stored ids ends bytes words (w .store) (w .state) (i .good) (i .last) in
       let rises = last-stored-rises (logOf w) more (rw (g .log) at (good .sound)) (w .state .last) _ (i .last) (rw (g .log) at last) in
       record {
-        lives = record { good = good; last = last };
-        grows = record { more = more; is = g .log };
+        over = record { lives = record { good = good; last = last }; grows = record { more = more; is = g .log } };
         settled = λ id h. record { some = h .some; most = omega (arith, h .most, rises); below = omega (arith, h .below, g .next) };
       }
 
@@ -85,15 +81,15 @@ module _ (w : World) (i : Lives w) where
       go true = moved-none w i
       go false = restated w (stateOf (w .state .length) (w .state .last) (w .state .next + 1)) i refl refl (λ id h. omega (arith, h .below))
 
-  moved-recovery : (excess : ℕ) (r : Recovering) → RightRecovery (logOf w) excess r → Moved w (world (w .store) (stateAfterRecovery (w .state) r))
-  moved-recovery excess = by-recovery {excess = excess} (λ r. Moved w (world (w .store) (stateAfterRecovery (w .state) r)))
+  moved-recovery : (excess : ℕ) (r : Recovering) → RightRecovery (logOf w) excess 0 r → Moved w (world (w .store) (stateAfterRecovery (w .state) r))
+  moved-recovery excess = by-recovery {excess = excess} {dropped = 0} (λ r. Moved w (world (w .store) (stateAfterRecovery (w .state) r)))
       (moved-none w i)
       (λ st h.
       let e = last-stored-unique (logOf w) (st .last) (w .state .last) (h .last) (i .last) in
       restated w st i (h .size ∙ sound-length (i .good)) e (λ id s. omega (arith, h .next, e, s .most)))
 
   -- a recovery at the log's current length
-  recovery-right : RightRecovery (logOf w) (excessOf (w .state .length)) (recoverOf (w .store) (w .state .length))
+  recovery-right : RightRecovery (logOf w) (excessOf (w .state .length)) 0 (recoverOf (w .store) (w .state .length))
   recovery-right =
       let e = uncut (w .store) (w .state .length) (sound-good (i .good) .whole) in
       rw e at (recover-right (w .store) (w .state .length) (i .good .fits) (rw e (i .good .sound)))
@@ -107,25 +103,84 @@ module _ (w : World) (i : Lives w) where
       go false e =
           let same : take (w .state .length) (logOf w ++ rest) ≡ logOf w = take-at (logOf w) rest (w .state .length) (sound-length (i .good)) in
           record {
-            lives = record { good = record { fits = fitting (logOf w ++ rest) (w .state .length) e; sound = rw same (i .good .sound) }; last = rw same (i .last) };
-            grows = record { more = []; is = same ∙ sym (append-nil (logOf w)) };
+            over = record {
+              lives = record { good = record { fits = fitting (logOf w ++ rest) (w .state .length) e; sound = rw same (i .good .sound) }; last = rw same (i .last) };
+              grows = record { more = []; is = same ∙ sym (append-nil (logOf w)) };
+            };
             settled = λ id h. record { some = h .some; most = h .most; below = h .below };
           }
 
-  pub moved : (c : Call) → Moved w (step w c)
+  pub moved : (c : Call) → Moved w (step w c) ⊎ IsCut c
   unfolding step answer
-  moved (push ids ends bytes words) = moved-push ids ends bytes words
-  moved take-id = moved-take
-  moved (find id) = moved-none w i
-  moved (lookup id out) = moved-none w i
-  moved (scan range) = moved-none w i
-  moved (step-on range cursor out) = moved-none w i
-  moved recover = moved-recovery (excessOf (w .state .length)) _ recovery-right
-  moved (lend rest) = moved-lent rest
+  moved (push ids ends bytes words) = inl (moved-push ids ends bytes words)
+  moved take-id = inl moved-take
+  moved (find id) = inl (moved-none w i)
+  moved (lookup id out) = inl (moved-none w i)
+  moved (scan range) = inl (moved-none w i)
+  moved (step-on range cursor out) = inl (moved-none w i)
+  moved recover = inl (moved-recovery (excessOf (w .state .length)) _ recovery-right)
+  moved (lend rest) = inl (moved-lent rest)
+  moved (cut n rest) = inr (record { bytes = n; rest = rest; is = refl })
 
-pub moved-run : (w : World) (cs : List Call) → Lives w → Moved w (run w cs)
+-- ---- any call, as long as no cut falls into what stands below
+
+module _ (base : List ℕ) (sound : Sound base) where
+  cut-over : {w v : World} → Over base w → CutLeaves base w v → Over base v
+  cut-over o not-gone-on = o
+  cut-over o (gone-on v p next) = p
+
+  over-step : (w : World) → Over base w → (c : Call) → Spares (length base) c → Over base (step w c)
+  over-step w o c spares = ⊎-elim
+      (over-then o)
+      (λ k. rw (k .is) (cut-over o (cut-leaves base sound w o (k .bytes) (rw (k .is) at spares) (k .rest))))
+      (moved w (o .lives) c)
+
+  pub over-run : (w : World) → Over base w → (cs : List Call) → AllSpare (length base) cs → Over base (run w cs)
+  unfolding run
+  over-run w o [] spare = o
+  over-run w o (c ∷ cs) spare = over-run (step w c) (over-step w o c (spare .0)) cs (spare .1)
+
+module _ (v : World) (i : Lives v) where
+  size : length (logOf v) ≡ v .state .length
+  size = sound-length (i .good)
+
+  -- a recovered state has a last id at or above that of the front, and next is one more
+  moved-cut : {w u : World} → Moved v w → CutLeaves (logOf v) w u → Moved v u
+  moved-cut m not-gone-on = m
+  moved-cut m (gone-on u o next) =
+      let rises = last-stored-rises (logOf v) (o .grows .more) (rw (o .grows .is) at (o .lives .good .sound)) (v .state .last) _ (i .last) (rw (o .grows .is) at (o .lives .last)) in
+      record { over = o; settled = λ id h. record { some = h .some; most = omega (arith, h .most, rises); below = omega (arith, h .most, rises, next) } }
+
+  moved-step : (w : World) → Moved v w → (c : Call) → Spares (v .state .length) c → Moved v (step w c)
+  moved-step w m c spares = ⊎-elim
+      (moved-then m)
+      (λ k. rw (k .is) (moved-cut m (cut-leaves (logOf v) (i .good .sound) w (m .over) (k .bytes) (rw (k .is, ← size) at spares) (k .rest))))
+      (moved w (m .over .lives) c)
+
+  moved-from : (w : World) → Moved v w → (cs : List Call) → AllSpare (v .state .length) cs → Moved v (run w cs)
+  unfolding run
+  moved-from w m [] spare = m
+  moved-from w m (c ∷ cs) spare = moved-from (step w c) (moved-step w m c (spare .0)) cs (spare .1)
+
+  pub moved-run : (cs : List Call) → AllSpare (v .state .length) cs → Moved v (run v cs)
+  moved-run = moved-from v (moved-none v i)
+
+-- ---- any calls, whatever is cut
+
+-- every log stands over the empty one
+over-nothing : (w : World) → Lives w → Over [] w
+over-nothing w i = record { lives = i; grows = record { more = logOf w; is = refl } }
+
+pub lives-step : (w : World) → Lives w → (c : Call) → Lives (step w c)
+lives-step w i c = ⊎-elim
+    (λ m. m .over .lives)
+    (λ k. rw (k .is) (cut-over [] sound-nothing (over-nothing w i) (cut-leaves [] sound-nothing w (over-nothing w i) (k .bytes) (omega arith) (k .rest)) .lives))
+    (moved w i c)
+  where
+    sound-nothing : Sound []
+    sound-nothing = sound-front (logOf w) 0 (omega arith) (i .good .sound) (λ p h l. absurd (omega arith))
+
+pub lives-run : (w : World) → Lives w → (cs : List Call) → Lives (run w cs)
 unfolding run
-moved-run w [] i = moved-none w i
-moved-run w (c ∷ cs) i =
-    let m = moved w i c in
-    moved-then m (moved-run (step w c) cs (m .lives))
+lives-run w i [] = i
+lives-run w i (c ∷ cs) = lives-run (step w c) (lives-step w i c) cs

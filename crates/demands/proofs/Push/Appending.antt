@@ -37,6 +37,18 @@ module _ (log x : List ℕ) where
         same = data-kept log x (h .page) (length d) w ∙ h .same;
       }
 
+  -- and one whose pages lie in the log was there before
+  pub holds-back : (id : ℕ) (d : List ℕ) (h : Holds (log ++ x) id d) → h .page + pagesForData (length d) ≤ pageCount log → Holds log id d
+  holds-back id d h w =
+      let i : h .page < pageCount log = omega (arith, pages-some (idSize + length d)) in
+      record {
+        page = h .page;
+        start = start-back (h .page) i (h .start);
+        has = sym (id-kept log x (h .page) i) ∙ h .has;
+        size = sym (length-kept log x (h .page) i) ∙ h .size;
+        same = sym (data-kept log x (h .page) (length d) w) ∙ h .same;
+      }
+
 -- ---- an entry's pages
 
 module _ (log : List ℕ) (s : Sound log) (id : ℕ) (d : List ℕ)
