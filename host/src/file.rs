@@ -1,11 +1,10 @@
-use std::{
-    fmt,
-    fs::{File, OpenOptions},
-    io::{self, Read, Seek, SeekFrom, Write},
-    path::Path,
-};
+use std::{fmt, io, path::Path};
 
-use crate::{log::new_store, Entry, Log, PushRefused, Refusal};
+use crate::{
+    disk::{Disk, Locked},
+    log::new_store,
+    CutOff, Entry, Log, PushRefused, Refusal,
+};
 
 /// What can go wrong with a log in a file: the library refuses, or the file does not do what was asked.
 #[derive(Debug)]
@@ -39,58 +38,62 @@ impl From<io::Error> for Error {
     }
 }
 
-/// A file that is locked while this stands. Closing alone would not unlock it at once: a process that another thread
-/// is just starting holds a copy of the descriptor, and with it the lock, until it runs its program.
-#[derive(Debug)]
-struct Locked(File);
-
-impl Drop for Locked {
-    fn drop(&mut self) {
-        let _ = self.0.unlock();
-    }
-}
-
-/// A log in a file. The library decides what the bytes are; this type reads, writes and syncs them.
+/// A log in a file. The library decides what the bytes are; this type reads, writes and syncs them. It answers nothing
+/// that no sync has covered, so that a power failure takes no answer back.
 #[derive(Debug)]
 pub struct LogFile {
-    file: Locked,
+    disk: Box<dyn Disk>,
     log: Log,
-    excess: u64,
-    /// A write failed, so that the file may lack entries that the memory has.
-    behind: bool,
+    cut_off: CutOff,
+    /// A push failed, so that the file may have bytes that the memory has not.
+    failed: bool,
 }
 
 impl LogFile {
     /// Opens a log, or makes an empty one, for a store of so many bytes, or of as many as the file has if those are
-    /// more; recovers it, and cuts a part page, which a crash in the middle of a write leaves, off the file. A second
-    /// opening at the same time is an error.
+    /// more. Recovers it, and cuts off the file's end what a crash in the middle of a write left there, an entry that is
+    /// not whole: see [`LogFile::cut_off`]. A file that is no log is refused and left alone. A second opening at the
+    /// same time is an error, and so is a disk that does not sync.
     pub fn open(path: impl AsRef<Path>, capacity: usize) -> Result<LogFile, Error> {
-        let file = OpenOptions::new().read(true).write(true).create(true).truncate(false).open(path)?;
-        file.try_lock().map_err(io::Error::from)?;
-        let mut file = Locked(file);
-        let length = file.0.metadata()?.len();
+        LogFile::open_on(Box::new(Locked::open(path.as_ref())?), capacity)
+    }
+
+    pub(crate) fn open_on(mut disk: Box<dyn Disk>, capacity: usize) -> Result<LogFile, Error> {
+        // Whoever wrote the file, or made it, may have been stopped before the sync: the system then shows bytes, and a
+        // name, that a power failure could still take away. Nothing tells such a file, so every opening syncs both.
+        disk.sync()?;
+        disk.sync_name()?;
+        let length = disk.length()?;
         // A file that is too long for a store is not read at all.
         let mut store = new_store(capacity.max(length as usize))?;
-        file.0.read_exact(&mut store[..length as usize])?;
-        let (log, excess) = Log::recover(store, length)?;
-        if excess > 0 {
-            file.0.set_len(log.state().length)?;
-            file.0.sync_all()?;
+        disk.read(&mut store[..length as usize])?;
+        let (log, cut_off) = Log::recover(store, length)?;
+        if cut_off.bytes() > 0 {
+            disk.cut(log.state().length)?;
+            disk.sync()?;
         }
-        Ok(LogFile { file, log, excess, behind: false })
+        Ok(LogFile { disk, log, cut_off, failed: false })
     }
 
     /// Appends entries; once it returns, those that were written are on the disk. What was refused for room can be
     /// pushed again, with the same ids, after [`LogFile::grow`], until the log is opened again: see [`PushRefused`].
+    ///
+    /// If the file cannot be written or synced, the error is [`Error::Io`], and the log answers as it did before the
+    /// push, from what the disk is known to have; ids that were taken stay taken. How much of the push the file got
+    /// nobody knows until the log is opened again, and until then no push is taken. The opening finds the first entries
+    /// of the batch that are whole in the file, none or some or all, and drops one that is cut. Their ids are above the
+    /// last written, so that nothing settled changes either way. One thing no opening can see: after a failed sync Linux
+    /// may let the next one return though the disk never got the bytes. See that the disk is well before you open again.
     pub fn push(&mut self, entries: &[Entry]) -> Result<(), Error> {
-        if self.behind {
-            return Err(io::Error::other("an earlier write failed: open the log again").into());
+        if self.failed {
+            return Err(io::Error::other("an earlier push failed: open the log again").into());
         }
-        let before = self.log.state().length;
+        let before = self.log.state();
         let pushed = self.log.push(entries);
-        if self.log.state().length > before {
-            if let Err(error) = self.write_from(before) {
-                self.behind = true;
+        if self.log.state().length > before.length {
+            if let Err(error) = self.write_from(before.length) {
+                self.log.go_back(before);
+                self.failed = true;
                 return Err(error.into());
             }
         }
@@ -99,9 +102,8 @@ impl LogFile {
 
     /// Writes the log's bytes from a position on, and waits until the disk has them.
     fn write_from(&mut self, position: u64) -> io::Result<()> {
-        self.file.0.seek(SeekFrom::Start(position))?;
-        self.file.0.write_all(&self.log.bytes()[position as usize..])?;
-        self.file.0.sync_data()
+        self.disk.write(position, &self.log.bytes()[position as usize..])?;
+        self.disk.sync()
     }
 
     /// Gives the log a larger store, as [`Log::grow`] does. Nothing of the file changes.
@@ -119,8 +121,8 @@ impl LogFile {
         &self.log
     }
 
-    /// The bytes that the opening cut off the file's end.
-    pub fn excess(&self) -> u64 {
-        self.excess
+    /// What the opening cut off the file's end; nothing of it is in the file any more.
+    pub fn cut_off(&self) -> CutOff {
+        self.cut_off
     }
 }

@@ -26,17 +26,19 @@ pub fn check(store: &[u8], length: u64) -> Result<(), Refusal> {
     Refusal::test(checked.number, checked.value)
 }
 
-/// What a recovery found: the state to go on with, and how many bytes of a part page it cut off.
+/// What a recovery found: the state to go on with; the bytes of a part page, and before them the whole pages of an entry
+/// that a crash cut short, which the log ends before.
 #[derive(Clone, Copy, Debug, PartialEq, Eq)]
 pub struct Recovered {
     pub state: State,
     pub excess: u64,
+    pub dropped: u64,
 }
 
-/// The state of the log in the first `length` bytes of the store, by its last entry.
+/// The state of the log in the first `length` bytes of the store, by its last whole entry.
 pub fn recover(store: &[u8], length: u64) -> Result<Recovered, Refusal> {
     let r = unsafe { ffi::awirbesh_recover(store.as_ptr(), store.len(), length) };
-    Refusal::test(r.number, r.value).map(|()| Recovered { state: r.state, excess: r.excess })
+    Refusal::test(r.number, r.value).map(|()| Recovered { state: r.state, excess: r.excess, dropped: r.dropped })
 }
 
 /// Where an id is, or where it would be.

@@ -4,21 +4,26 @@
 //! this crate links as an archive. The crate adds what a host has and the library has not: owned memory, files,
 //! iterators and errors.
 //!
-//! - [`LogFile`]: a log in a file, synced after each push.
+//! - [`LogFile`]: a log in a file, synced after each push; one that a crash tore is opened by its last whole entry.
 //! - [`Log`]: a log in memory.
 //! - [`IdSequence`]: when no earlier id is still out.
 //! - [`lent`]: the same operations over memory that the caller lends, with no allocation.
 //! - [`ffi`]: the archive's functions as they are.
+#[cfg(test)]
+mod crashes;
+mod disk;
 pub mod ffi;
 mod file;
 pub mod lent;
 mod log;
 mod refusal;
 mod sequence;
+#[cfg(test)]
+mod simulated;
 
 pub use ffi::State;
 pub use file::{Error, LogFile};
 pub use lent::{Look, Pushed, Recovered, Step};
-pub use log::{Entry, Log, PushRefused, Scan};
+pub use log::{CutOff, Entry, Log, PushRefused, Scan};
 pub use refusal::Refusal;
 pub use sequence::IdSequence;

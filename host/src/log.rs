@@ -37,6 +37,22 @@ impl std::error::Error for PushRefused {
     }
 }
 
+/// What a recovery cut off a log's end: an entry that a crash stopped in the middle, or nothing.
+#[derive(Clone, Copy, Debug, Default, PartialEq, Eq, Hash)]
+pub struct CutOff {
+    /// Bytes of a last page that is not whole: fewer than 1,024.
+    pub excess: u64,
+    /// Whole pages before those, from the start of the entry that is cut on.
+    pub dropped: u64,
+}
+
+impl CutOff {
+    /// All that was cut off, in bytes: what was given is this much longer than the log.
+    pub fn bytes(self) -> u64 {
+        1_024 * self.dropped + self.excess
+    }
+}
+
 /// A log in memory: a store, which [`Log::grow`] makes larger, and the state of the log in its front.
 #[derive(Clone, Debug)]
 pub struct Log {
@@ -50,10 +66,15 @@ impl Log {
         Log { store: vec![0; bytes], state: State::fresh() }
     }
 
-    /// The log that the first `length` bytes of a store hold, by its last entry, and the bytes cut off its end.
-    pub fn recover(store: Vec<u8>, length: u64) -> Result<(Log, u64), Refusal> {
-        let Recovered { state, excess } = lent::recover(&store, length)?;
-        Ok((Log { store, state }, excess))
+    /// The log that the first `length` bytes of a store hold, by its last whole entry, and what was cut off its end.
+    pub fn recover(store: Vec<u8>, length: u64) -> Result<(Log, CutOff), Refusal> {
+        let Recovered { state, excess, dropped } = lent::recover(&store, length)?;
+        Ok((Log { store, state }, CutOff { excess, dropped }))
+    }
+
+    /// Forgets what was pushed since the log had a state: a push writes beyond the length alone.
+    pub(crate) fn go_back(&mut self, state: State) {
+        self.state = state;
     }
 
     /// Gives the log a store of so many bytes, so that what was refused for room can be pushed again with its id. A

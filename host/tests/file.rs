@@ -1,7 +1,12 @@
-//! The log in a file: what is written, synced, cut and refused; and the example's story.
-use std::{fs, path::PathBuf, process::Command};
+//! The log in a file: what is written, synced, cut and refused; and the example's story. What a disk can do to it that
+//! no test can make a real one do is in src/crashes.rs.
+use std::{
+    env, fs,
+    path::{Path, PathBuf},
+    process::Command,
+};
 
-use awirbesh::{Entry, Error, LogFile, PushRefused, Refusal, State};
+use awirbesh::{CutOff, Entry, Error, LogFile, PushRefused, Refusal, State};
 
 const CAPACITY: usize = 64 * 1024;
 
@@ -10,16 +15,39 @@ struct Scratch(PathBuf);
 
 impl Scratch {
     fn new(name: &str) -> Scratch {
-        let path = std::env::temp_dir().join(format!("awirbesh-{}-{name}", std::process::id()));
-        let _ = fs::remove_file(&path);
-        Scratch(path)
+        let path = env::temp_dir().join(format!("awirbesh-{}-{name}", std::process::id()));
+        let scratch = Scratch(path);
+        scratch.remove();
+        scratch
+    }
+
+    fn remove(&self) {
+        let _ = fs::remove_file(&self.0).or_else(|_| fs::remove_dir_all(&self.0));
     }
 }
 
 impl Drop for Scratch {
     fn drop(&mut self) {
-        let _ = fs::remove_file(&self.0);
+        self.remove();
     }
+}
+
+/// Names the log of a test that runs itself again in a process of its own.
+const OWN_PROCESS: &str = "AWIRBESH_TEST_LOG";
+
+/// In that process: the log.
+fn own_process() -> Option<PathBuf> {
+    env::var_os(OWN_PROCESS).map(PathBuf::from)
+}
+
+/// Runs a test of this file again, by a shell that first does what it is told to.
+fn run_again(test: &str, log: &Path, first: &str, variables: &[(&str, &Path)]) {
+    let mut shell = Command::new("sh");
+    shell.args(["-c", &format!("{first}\nexec \"$@\""), "sh"]).arg(env::current_exe().unwrap());
+    shell.args(["--exact", test]).env(OWN_PROCESS, log).envs(variables.iter().copied());
+    let ran = shell.output().unwrap();
+    assert!(ran.status.success(), "{}{}", String::from_utf8_lossy(&ran.stdout), String::from_utf8_lossy(&ran.stderr));
+    assert!(String::from_utf8_lossy(&ran.stdout).contains("1 passed"));
 }
 
 #[test]
@@ -35,7 +63,7 @@ fn what_was_pushed_is_in_the_file() {
     let state = log.log().state();
     drop(log);
     let again = LogFile::open(&path.0, CAPACITY).unwrap();
-    assert_eq!((again.log().state(), again.excess()), (state, 0));
+    assert_eq!((again.log().state(), again.cut_off()), (state, CutOff::default()));
     assert_eq!(again.log().get(5).unwrap(), Some(vec![5; 2100]));
 }
 
@@ -80,7 +108,7 @@ fn what_was_refused_for_room_is_in_the_file_once_there_is_more() {
     assert_eq!(fs::read(&path.0).unwrap(), log.log().bytes());
     drop(log);
     let again = LogFile::open(&path.0, CAPACITY).unwrap();
-    assert_eq!((again.log().state(), again.excess()), (state, 0));
+    assert_eq!((again.log().state(), again.cut_off()), (state, CutOff::default()));
     assert_eq!(entries_of(&again), entries);
 }
 
@@ -110,16 +138,111 @@ fn a_refused_growth_leaves_log_and_file_alone() {
     assert_eq!(entries_of(&log), entries);
 }
 
+/// Of entries of 1, 2, 3 and 17 pages, about every page's end and in between. At every byte: src/crashes.rs.
 #[test]
-fn opening_cuts_a_part_page() {
-    let path = Scratch::new("part");
-    LogFile::open(&path.0, CAPACITY).unwrap().push(&[Entry::new(1, "one")]).unwrap();
-    let mut bytes = fs::read(&path.0).unwrap();
-    bytes.extend_from_slice(&[1; 100]);
-    fs::write(&path.0, &bytes).unwrap();
-    let log = LogFile::open(&path.0, CAPACITY).unwrap();
-    assert_eq!((log.excess(), log.log().state().length), (100, 1024));
-    assert_eq!(fs::metadata(&path.0).unwrap().len(), 1024);
+fn a_file_that_was_cut_opens() {
+    let path = Scratch::new("cut");
+    let ends = [0, 1, 3, 6, 23].map(|pages| pages * 1024);
+    let mut log = LogFile::open(&path.0, CAPACITY).unwrap();
+    let entries = [1, 2, 3, 17].map(|pages| Entry::new(log.take().unwrap(), vec![pages as u8; pages * 1023 - 100]));
+    log.push(&entries).unwrap();
+    drop(log);
+    let bytes = fs::read(&path.0).unwrap();
+    assert_eq!(bytes.len(), ends[4]);
+    for length in (0..=bytes.len()).filter(|at| (at + 1) % 1024 <= 2 || at % 397 == 0) {
+        fs::write(&path.0, &bytes[..length]).unwrap();
+        let mut log = LogFile::open(&path.0, CAPACITY).unwrap();
+        let whole = ends.iter().filter(|end| **end <= length).count() - 1;
+        assert_eq!(entries_of(&log), entries[..whole], "cut to {length}");
+        for (i, entry) in entries.iter().enumerate() {
+            let data = log.log().get(entry.id).unwrap();
+            assert_eq!(data.as_ref(), (i < whole).then_some(&entry.data));
+        }
+        let beyond = (length - ends[whole]) as u64;
+        assert_eq!(log.cut_off(), CutOff { excess: beyond % 1024, dropped: beyond / 1024 });
+        assert_eq!((log.cut_off().bytes(), log.log().state().length), (beyond, ends[whole] as u64));
+        assert_eq!(fs::read(&path.0).unwrap(), bytes[..ends[whole]]);
+        if (length + 1) % 1024 <= 2 {
+            let next = [Entry::new(log.take().unwrap(), [9; 1500])];
+            log.push(&next).unwrap();
+            drop(log);
+            let again = LogFile::open(&path.0, CAPACITY).unwrap();
+            assert_eq!(entries_of(&again), [&entries[..whole], &next].concat());
+            assert_eq!(again.cut_off(), CutOff::default());
+        }
+    }
+}
+
+/// An entry that no write can finish: the log answers what it has, and opens again without it.
+#[test]
+fn an_entry_stopped_by_a_file_size_limit_locks_nothing_out() {
+    let settled = [Entry::new(1, "one"), Entry::new(2, "two")];
+    if let Some(path) = own_process() {
+        let mut log = LogFile::open(path, CAPACITY).unwrap();
+        log.push(&settled).unwrap();
+        let (two, long) = ([log.take().unwrap(), log.take().unwrap()], log.take().unwrap());
+        let before = log.log().state();
+        assert_eq!((two, before), ([1, 2], State { length: 2048, last: 2, next: 4 }));
+        assert!(matches!(log.push(&[Entry::new(long, [3; 9_000])]), Err(Error::Io(_))));
+        assert_eq!((log.log().get(long), log.log().state()), (Ok(None), before));
+        assert_eq!(entries_of(&log), settled);
+        match log.push(&[Entry::new(4, "four")]) {
+            Err(Error::Io(error)) => assert!(error.to_string().contains("open the log again")),
+            other => panic!("{other:?}"),
+        }
+        return;
+    }
+    let path = Scratch::new("limit");
+    // 4,608 bytes, or 9,216 where the shell counts in blocks of 1,024; a write beyond them is an error and no signal.
+    let test = "an_entry_stopped_by_a_file_size_limit_locks_nothing_out";
+    run_again(test, &path.0, "trap '' XFSZ; ulimit -f 9", &[]);
+    let beyond = fs::metadata(&path.0).unwrap().len() - 2048;
+    assert!([2_560, 7_168].contains(&beyond));
+
+    let mut log = LogFile::open(&path.0, CAPACITY).unwrap();
+    assert_eq!(log.cut_off(), CutOff { excess: beyond % 1024, dropped: beyond / 1024 });
+    assert_eq!(log.log().state(), State { length: 2048, last: 2, next: 3 });
+    assert_eq!(entries_of(&log), settled);
+    let long = Entry::new(log.take().unwrap(), [3; 9_000]);
+    log.push(std::slice::from_ref(&long)).unwrap();
+    drop(log);
+    let again = LogFile::open(&path.0, CAPACITY).unwrap();
+    assert_eq!(entries_of(&again), [&settled[..], &[long]].concat());
+}
+
+/// The real file's own syncs, in their order: at an opening of the file and of the folder that it is in, after a cut, and
+/// after each push.
+#[test]
+fn the_file_and_its_folder_are_synced() {
+    if let Some(path) = own_process() {
+        let mut log = LogFile::open(path, CAPACITY).unwrap();
+        for _ in 0..2 {
+            let id = log.take().unwrap();
+            log.push(&[Entry::new(id, [7; 3000])]).unwrap();
+        }
+        return;
+    }
+    let scratch = Scratch::new("synced");
+    fs::create_dir_all(scratch.0.join("kept")).unwrap();
+    let all = fs::canonicalize(&scratch.0).unwrap();
+    let (kept, log, link, list) = (all.join("kept"), all.join("kept/log"), all.join("link"), all.join("list"));
+    std::os::unix::fs::symlink(&log, &link).unwrap();
+    let record = all.join("record.so");
+    let source = Path::new(env!("CARGO_MANIFEST_DIR")).join("tests/record.c");
+    let compiled = Command::new("cc").args(["-shared", "-fPIC", "-o"]).args([&record, &source]).status().unwrap();
+    assert!(compiled.success());
+
+    let recorded = || {
+        let _ = fs::remove_file(&list);
+        let variables = [("LD_PRELOAD", &*record), ("RECORD_FOLDER", &*kept), ("RECORD_LIST", &*list)];
+        run_again("the_file_and_its_folder_are_synced", &link, "", &variables);
+        fs::read_to_string(&list).unwrap()
+    };
+    let push = "write /log\nsync /log\n";
+    assert_eq!(recorded(), format!("sync /log\nsync \n{push}{push}"));
+    fs::File::options().write(true).open(&log).unwrap().set_len(5 * 1024 + 5).unwrap();
+    assert_eq!(recorded(), format!("sync /log\nsync \ncut /log\nsync /log\n{push}{push}"));
+    assert_eq!(recorded(), format!("sync /log\nsync \n{push}{push}"));
 }
 
 #[test]
@@ -167,21 +290,16 @@ fn one_writer_at_a_time() {
     assert!(matches!(LogFile::open(&path.0, CAPACITY), Err(Error::Io(_))));
 }
 
+/// /dev/full is no file, and no sync is to be had of it.
 #[test]
-fn after_a_failed_write_no_push_is_taken() {
-    // /dev/full refuses every write, as a full disk does.
-    let Ok(mut log) = LogFile::open("/dev/full", CAPACITY) else { panic!("/dev/full cannot be opened") };
-    assert!(matches!(log.push(&[Entry::new(1, "one")]), Err(Error::Io(_))));
-    match log.push(&[Entry::new(2, "two")]) {
-        Err(Error::Io(error)) => assert!(error.to_string().contains("open the log again")),
-        other => panic!("{other:?}"),
-    }
+fn a_disk_that_does_not_sync_is_not_opened() {
+    assert!(matches!(LogFile::open("/dev/full", CAPACITY), Err(Error::Io(_))));
 }
 
 #[test]
 fn the_example_tells_its_story() {
     // Cargo builds the examples beside the tests: target/PROFILE/deps/THIS and target/PROFILE/examples/planners.
-    let test = std::env::current_exe().unwrap();
+    let test = env::current_exe().unwrap();
     let example = test.parent().unwrap().parent().unwrap().join("examples/planners");
     let told = Command::new(example).output().unwrap();
     assert!(told.status.success());

@@ -1,5 +1,5 @@
 //! The worked cases of docs/RULES.md 13, through the safe types.
-use awirbesh::{lent, Entry, IdSequence, Log, Look, Refusal, State};
+use awirbesh::{lent, CutOff, Entry, IdSequence, Log, Look, Refusal, State};
 
 const PAGE: usize = 1024;
 
@@ -89,8 +89,8 @@ fn data_at_the_limit_keeps_its_id() {
     let data: Vec<u8> = (0..16_777_207u32).map(|i| (i % 251) as u8).collect();
     log.push(&[Entry::new(7, data.clone())]).unwrap();
     assert_eq!(log.state().length, 16_402 * 1024);
-    let (again, excess) = Log::recover(log.bytes().to_vec(), log.state().length).unwrap();
-    assert_eq!((again.state().next, excess), (8, 0));
+    let (again, cut_off) = Log::recover(log.bytes().to_vec(), log.state().length).unwrap();
+    assert_eq!((again.state().next, cut_off), (8, CutOff::default()));
     assert!(again.get(7) == Ok(Some(data)));
 }
 
@@ -163,10 +163,23 @@ fn a_store_that_the_library_refuses_is_not_kept() {
 fn recovery_cuts_an_excess() {
     let mut log = log_of(&[(9, 8)], 1);
     log.push(&[Entry::new(10, "")]).unwrap();
-    let (cut, excess) = Log::recover(log.bytes().to_vec(), 1_030).unwrap();
-    assert_eq!((cut.state(), excess), (State { length: 1024, last: 9, next: 10 }, 6));
+    let (cut, cut_off) = Log::recover(log.bytes().to_vec(), 1_030).unwrap();
+    assert_eq!(cut.state(), State { length: 1024, last: 9, next: 10 });
+    assert_eq!((cut_off, cut_off.bytes()), (CutOff { excess: 6, dropped: 0 }, 6));
     assert_eq!(lent::recover(&[], 0).unwrap().state, State::fresh());
     assert_eq!(lent::recover(&[], 1), Err(Refusal::BadState));
+}
+
+#[test]
+fn recovery_drops_an_entry_that_is_cut() {
+    let log = log_of(&[(1, 8), (2, 3_000)], 3);
+    let (cut, cut_off) = Log::recover(log.bytes().to_vec(), 3 * 1024 + 6).unwrap();
+    assert_eq!(cut.state(), State { length: 1024, last: 1, next: 2 });
+    assert_eq!((cut_off, cut_off.bytes()), (CutOff { excess: 6, dropped: 2 }, 2_054));
+    assert_eq!((cut.check(), cut.get(1), cut.get(2)), (Ok(()), Ok(Some(vec![])), Ok(None)));
+
+    let (none, cut_off) = Log::recover(log.bytes()[1024..].to_vec(), 2 * 1024).unwrap();
+    assert_eq!((none.state(), cut_off), (State::fresh(), CutOff { excess: 0, dropped: 2 }));
 }
 
 #[test]

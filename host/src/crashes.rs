@@ -1,0 +1,275 @@
+//! What a log in a file promises of a disk that fails or loses power, over a simulated one: every operation in turn, and
+//! of what no sync has covered every cut. What is promised of a cut is promised of the first bytes that were written,
+//! however many; a disk that keeps later ones and not the earlier has a test of its own, which says what then holds.
+use crate::{
+    simulated::{Chance, Fault, Simulated},
+    CutOff, Entry, Error, LogFile, Refusal,
+};
+
+const PAGE: usize = 1_024;
+const CAPACITY: usize = 64 * PAGE;
+
+/// The batches that each opening of the log pushes, by the pages of their entries; 0 is an id that was pushed before.
+const STORY: [&[&[usize]]; 2] = [&[&[1], &[2, 1]], &[&[3, 1, 0], &[1, 1]]];
+
+/// Says which case it was if the test fails in it.
+struct Case(String);
+
+impl Drop for Case {
+    fn drop(&mut self) {
+        if std::thread::panicking() {
+            eprintln!("failed: {}", self.0);
+        }
+    }
+}
+
+/// An entry of so many pages, with a few bytes of filling or none.
+fn entry(id: u64, pages: usize) -> Entry {
+    let length = 1_023 * pages - 11 - 5 * (id as usize % 3);
+    Entry::new(id, (0..length).map(|i| (i as u64 + 7 * id) as u8).collect::<Vec<_>>())
+}
+
+fn pages(entry: &Entry) -> usize {
+    entry.data.len() / 1_023 + 1
+}
+
+fn open(disk: &Simulated) -> Result<LogFile, Error> {
+    LogFile::open_on(Box::new(disk.clone()), CAPACITY)
+}
+
+/// Every entry of a sound log, each by a scan and by a lookup.
+fn entries_of(log: &LogFile) -> Vec<Entry> {
+    let log = log.log();
+    log.check().unwrap();
+    let entries: Vec<Entry> = log.scan(..).unwrap().map(|entry| entry.unwrap()).collect();
+    for entry in &entries {
+        assert_eq!(log.get(entry.id).unwrap().as_ref(), Some(&entry.data));
+    }
+    entries
+}
+
+/// The bytes of a log of these entries.
+fn bytes_of(entries: &[Entry]) -> Vec<u8> {
+    let disk = Simulated::new();
+    open(&disk).unwrap().push(entries).unwrap();
+    disk.bytes()
+}
+
+/// Where a story begins: a disk, and the entries that are whole on it. A new file; a log; and logs whose last entry, of
+/// 9 pages, was cut after so many bytes.
+fn beginnings() -> Vec<(Simulated, Vec<Entry>)> {
+    let entries = [entry(1, 1), entry(2, 2), entry(3, 9)];
+    let bytes = bytes_of(&entries);
+    let cut = |pages, more| (Simulated::with(&bytes[..pages * PAGE + more]), entries[..2].to_vec());
+    vec![(Simulated::new(), Vec::new()), cut(3, 0), cut(3, 700), cut(4, 0), cut(11, 1_023)]
+}
+
+/// What came of a story.
+struct Told {
+    /// Entries of the pushes that returned: the log said that the disk has them.
+    settled: Vec<Entry>,
+    /// Those of the push that failed.
+    attempted: Vec<Entry>,
+}
+
+/// Opens the log and pushes until the disk fails. The log answers what was pushed, and nothing of a push that failed.
+fn tell(disk: &Simulated, mut settled: Vec<Entry>) -> Told {
+    for session in STORY {
+        let mut log = match open(disk) {
+            Err(Error::Io(_)) => return Told { settled, attempted: Vec::new() },
+            opened => opened.unwrap(),
+        };
+        assert_eq!(entries_of(&log), settled);
+        for pages in session {
+            let mut batch: Vec<Entry> = Vec::new();
+            for &pages in *pages {
+                batch.push(match pages {
+                    0 => entry(log.log().state().last, 1),
+                    _ => entry(log.take().unwrap(), pages),
+                });
+            }
+            let before = log.log().state();
+            let pushed = log.push(&batch);
+            batch.retain(|entry| entry.id > before.last);
+            match pushed {
+                Ok(()) => settled.extend(batch),
+                Err(Error::PushRefused(refused)) => {
+                    assert_eq!((refused.refusal, refused.written), (Refusal::OutOfOrder, batch.len()));
+                    settled.extend(batch);
+                }
+                Err(Error::Io(_)) => {
+                    assert_eq!(log.log().state(), before);
+                    assert_eq!(entries_of(&log), settled);
+                    assert!(batch.iter().all(|entry| log.log().get(entry.id) == Ok(None)));
+                    let operations = disk.operations();
+                    let next = log.take().unwrap();
+                    assert!(matches!(log.push(&[entry(next, 1)]), Err(Error::Io(_))));
+                    assert_eq!((disk.operations(), entries_of(&log)), (operations, settled.clone()));
+                    return Told { settled, attempted: batch };
+                }
+                Err(other) => panic!("{other}"),
+            }
+            assert_eq!(entries_of(&log), settled);
+        }
+    }
+    Told { settled, attempted: Vec::new() }
+}
+
+/// A disk on which something stopped in the middle, opened again: the log has what was settled, and the first entries of
+/// what was attempted that are whole. What it answers stays, and it goes on.
+fn go_on(disk: &Simulated, told: &Told) {
+    let given = disk.bytes().len();
+    let mut whole = Vec::new();
+    let mut length = 0;
+    for entry in told.settled.iter().chain(&told.attempted) {
+        if length + pages(entry) * PAGE > given {
+            break;
+        }
+        length += pages(entry) * PAGE;
+        whole.push(entry.clone());
+    }
+    assert!(whole.starts_with(&told.settled));
+
+    let mut log = open(disk).unwrap();
+    assert_eq!(entries_of(&log), whole);
+    let beyond = (given - length) as u64;
+    assert_eq!(log.cut_off(), CutOff { excess: beyond % 1_024, dropped: beyond / 1_024 });
+    assert_eq!(log.cut_off().bytes(), beyond);
+    assert_eq!(disk.bytes(), log.log().bytes());
+    assert_eq!(disk.restart(0).bytes(), log.log().bytes()); // what it answers, a power failure does not take away
+
+    whole.push(entry(log.take().unwrap(), 2));
+    log.push(&whole[whole.len() - 1..]).unwrap();
+    let again = open(&disk.restart(0)).unwrap();
+    assert_eq!((entries_of(&again), again.cut_off()), (whole, CutOff::default()));
+}
+
+/// Tells the story from every beginning, with a fault at every operation in turn.
+fn at_every_operation(mut fault: impl FnMut(&Simulated, usize, &[Entry])) {
+    for (number, (beginning, entries)) in beginnings().into_iter().enumerate() {
+        let unharmed = beginning.restart(0);
+        let told = tell(&unharmed, entries.clone());
+        assert_eq!(unharmed.bytes(), bytes_of(&told.settled));
+        for operation in 0..unharmed.operations() {
+            let _case = Case(format!("beginning {number}, operation {operation}"));
+            fault(&beginning, operation, &entries);
+        }
+    }
+}
+
+/// Where a write of so many bytes is cut: at every byte, or in a page's first fields, about its end and between.
+fn cuts(bytes: usize, every: bool) -> impl Iterator<Item = usize> {
+    (0..=bytes).filter(move |at| every || at % PAGE <= 13 || at % PAGE == PAGE - 1 || at % 97 == 0)
+}
+
+#[test]
+fn a_file_cut_at_every_byte_opens() {
+    let told = Told { settled: Vec::new(), attempted: vec![entry(1, 1), entry(2, 2), entry(3, 3), entry(4, 17)] };
+    let bytes = bytes_of(&told.attempted);
+    for length in 0..=bytes.len() {
+        let _case = Case(format!("{length} bytes"));
+        go_on(&Simulated::with(&bytes[..length]), &told);
+    }
+}
+
+#[test]
+fn any_operation_may_fail() {
+    at_every_operation(|beginning, operation, entries| {
+        let mut steps = 0;
+        for after in cuts(12 * PAGE, false) {
+            if after > steps {
+                break;
+            }
+            let _case = Case(format!("after {after} steps"));
+            let disk = beginning.restart(0);
+            disk.set_fault(operation, Fault::Fails { after });
+            let told = tell(&disk, entries.to_vec());
+            assert_eq!(disk.operations(), operation + 1);
+            steps = disk.fault_steps();
+            for lost in [disk.restart(0), disk.restart(usize::MAX)] {
+                go_on(&lost, &told);
+            }
+            go_on(&disk, &told);
+        }
+    });
+}
+
+#[test]
+fn the_power_may_fail_at_any_byte() {
+    at_every_operation(|beginning, operation, entries| {
+        let disk = beginning.restart(0);
+        disk.set_fault(operation, Fault::LosesPower);
+        let told = tell(&disk, entries.to_vec());
+        assert_eq!(disk.operations(), operation + 1);
+        let every_byte = entries.is_empty(); // the other beginnings differ in how they are opened
+        for steps in cuts(disk.steps(), every_byte) {
+            let _case = Case(format!("{steps} steps kept"));
+            go_on(&disk.restart(steps), &told);
+        }
+    });
+}
+
+/// A disk that keeps any sectors of what no sync has covered, and zeros for the others, may keep an entry without all of
+/// its data: the library has no checksum and answers it. But it answers of no id that was not pushed, and what was
+/// settled stays: as soon as something was, the log opens and is sound. Before, page 0 may be lost, and that is refused.
+#[test]
+fn sectors_that_come_out_of_order_leave_what_was_settled() {
+    at_every_operation(|beginning, operation, entries| {
+        let disk = beginning.restart(0);
+        disk.set_fault(operation, Fault::LosesPower);
+        let told = tell(&disk, entries.to_vec());
+        for seed in 0..100 {
+            let _case = Case(format!("seed {seed}"));
+            let lost = disk.restart_with_sectors(&mut Chance(seed));
+            let log = match open(&lost) {
+                Err(Error::Refused(refusal)) if told.settled.is_empty() => {
+                    assert_eq!(refusal, Refusal::NoEntries { page: 0 });
+                    continue;
+                }
+                Ok(log) if told.settled.is_empty() && log.log().check().is_err() => {
+                    assert_eq!(log.log().check(), Err(Refusal::NoEntries { page: 0 }));
+                    continue;
+                }
+                opened => opened.unwrap(),
+            };
+            let found = entries_of(&log);
+            assert!(found.starts_with(&told.settled));
+            for entry in &found[told.settled.len()..] {
+                let pushed = told.attempted.iter().find(|pushed| pushed.id == entry.id).unwrap();
+                assert_eq!(pushed.data.len(), entry.data.len());
+                assert!(entry.data.iter().zip(&pushed.data).all(|(read, pushed)| read == pushed || *read == 0));
+            }
+        }
+    });
+}
+
+/// Of other bytes after the log, which no push wrote, this alone is promised: the opening ends, it refuses and leaves the
+/// file alone, or it cuts the file nowhere before the log's end.
+#[test]
+fn whatever_comes_after_a_log_none_of_its_bytes_is_lost() {
+    let bytes = bytes_of(&[entry(1, 1), entry(2, 2), entry(3, 1)]);
+    let mut refused = 0;
+    for seed in 0..5_000 {
+        let _case = Case(format!("seed {seed}"));
+        let mut chance = Chance(seed);
+        let mut file = bytes.clone();
+        // Mostly marks and lengths that an entry can have, so that many of them are opened.
+        for _ in 0..chance.up_to(5) {
+            let mut page: Vec<u8> = (0..PAGE).map(|_| chance.up_to(255) as u8).collect();
+            page[..3].copy_from_slice(&[chance.up_to(20).saturating_sub(18) as u8, 0, chance.up_to(16) as u8]);
+            file.extend(page);
+        }
+        file.truncate(file.len() - chance.up_to((file.len() - bytes.len()).min(PAGE)));
+        let disk = Simulated::with(&file);
+        match open(&disk) {
+            Ok(log) => assert!(log.log().bytes() == disk.bytes() && file.starts_with(log.log().bytes())),
+            Err(Error::Refused(_)) => {
+                refused += 1;
+                assert!(disk.bytes() == file);
+            }
+            Err(other) => panic!("{other}"),
+        }
+        assert!(disk.bytes().starts_with(&bytes));
+    }
+    assert!((100..4_900).contains(&refused), "{refused} were refused");
+}
