@@ -1,11 +1,12 @@
 //! Three query planners share one catalog log of the indexes that they really build. A what-if session takes an id
 //! as a build does, and drops it: nothing of it is stored. A build for which the log has no room goes in with the same
-//! id once there is more. Later a planner asks of each id which it was.
+//! id once there is more. Later a planner asks of each id which it was. At last the power fails in the middle of a write:
+//! the log opens again with all that was settled.
 //!
 //! `cargo run --example planners [FILE]`; without a file the log lies in the temporary folder and is removed.
-use std::path::PathBuf;
+use std::{fs, path::PathBuf};
 
-use awirbesh::{Entry, Error, IdSequence, LogFile, PushRefused, Refusal};
+use awirbesh::{Entry, Error, IdSequence, Log, LogFile, PushRefused, Refusal};
 
 /// Bytes of memory for the log: at first too few for the story, so that a build is refused.
 const LITTLE_ROOM: usize = 2 * 1024;
@@ -144,11 +145,28 @@ fn tell(path: &PathBuf) -> Result<(), Error> {
         println!("  {}: {}", entry.id, String::from_utf8_lossy(&entry.data));
     }
 
+    println!();
+    let on_clicks = catalog.take("planner C")?;
+    println!("planner C brings index {on_clicks}, and the power fails while it is written");
     drop(catalog);
+    lose_power(path, &Entry::new(on_clicks, "clicks (page, day, country) ".repeat(100)))?;
+
     let again = LogFile::open(path, LITTLE_ROOM)?;
     again.log().check()?;
-    let state = again.log().state();
-    println!("\nopened again: {} bytes, last written {}, next id {}; sound", state.length, state.last, state.next);
+    let (state, cut_off) = (again.log().state(), again.cut_off().bytes());
+    println!("opened again: {cut_off} bytes of an entry that was not whole are cut off");
+    println!("  {} bytes, last written {}, next id {}; sound", state.length, state.last, state.next);
+    Ok(())
+}
+
+/// Leaves the file as a power failure does in the middle of a push: with the first half of what it was to write.
+fn lose_power(path: &PathBuf, entry: &Entry) -> Result<(), Error> {
+    let mut store = fs::read(path)?;
+    let length = store.len();
+    store.resize(length + MORE_ROOM, 0);
+    let (mut log, _) = Log::recover(store, length as u64)?;
+    log.push(std::slice::from_ref(entry)).map_err(Error::PushRefused)?;
+    fs::write(path, &log.bytes()[..(length + log.bytes().len()) / 2])?;
     Ok(())
 }
 
@@ -158,7 +176,7 @@ fn main() -> Result<(), Error> {
         None => {
             let path = std::env::temp_dir().join(format!("planners-{}.log", std::process::id()));
             let told = tell(&path);
-            std::fs::remove_file(&path)?;
+            fs::remove_file(&path)?;
             told
         }
     }
