@@ -10,7 +10,7 @@ const PAGE: usize = 1_024;
 const CAPACITY: usize = 64 * PAGE;
 
 /// The batches that each opening of the log pushes, by the pages of their entries; 0 is an id that was pushed before.
-const STORY: [&[&[usize]]; 2] = [&[&[1], &[2, 1]], &[&[3, 1, 0], &[1, 1]]];
+const STORY: [&[&[usize]]; 2] = [&[&[2, 1], &[1]], &[&[3, 1, 0], &[1, 1]]];
 
 /// Says which case it was if the test fails in it.
 struct Case(String);
@@ -214,6 +214,7 @@ fn the_power_may_fail_at_any_byte() {
 /// settled stays: as soon as something was, the log opens and is sound. Before, page 0 may be lost, and that is refused.
 #[test]
 fn sectors_that_come_out_of_order_leave_what_was_settled() {
+    let (mut without_page_0, mut without_data) = (0, 0);
     at_every_operation(|beginning, operation, entries| {
         let disk = beginning.restart(0);
         disk.set_fault(operation, Fault::LosesPower);
@@ -221,26 +222,23 @@ fn sectors_that_come_out_of_order_leave_what_was_settled() {
         for seed in 0..100 {
             let _case = Case(format!("seed {seed}"));
             let lost = disk.restart_with_sectors(&mut Chance(seed));
-            let log = match open(&lost) {
-                Err(Error::Refused(refusal)) if told.settled.is_empty() => {
-                    assert_eq!(refusal, Refusal::NoEntries { page: 0 });
-                    continue;
-                }
-                Ok(log) if told.settled.is_empty() && log.log().check().is_err() => {
-                    assert_eq!(log.log().check(), Err(Refusal::NoEntries { page: 0 }));
-                    continue;
-                }
-                opened => opened.unwrap(),
-            };
-            let found = entries_of(&log);
+            let sound = open(&lost).and_then(|log| Ok(log.log().check().map(|()| log)?));
+            if let (true, Err(Error::Refused(refusal))) = (told.settled.is_empty(), &sound) {
+                assert_eq!(*refusal, Refusal::NoEntries { page: 0 });
+                without_page_0 += 1;
+                continue;
+            }
+            let found = entries_of(&sound.unwrap());
             assert!(found.starts_with(&told.settled));
             for entry in &found[told.settled.len()..] {
                 let pushed = told.attempted.iter().find(|pushed| pushed.id == entry.id).unwrap();
                 assert_eq!(pushed.data.len(), entry.data.len());
                 assert!(entry.data.iter().zip(&pushed.data).all(|(read, pushed)| read == pushed || *read == 0));
+                without_data += u32::from(entry != pushed);
             }
         }
     });
+    assert!(without_page_0 > 0 && without_data > 0, "the cases that the comment tells of do not come up");
 }
 
 /// Of other bytes after the log, which no push wrote, this alone is promised: the opening ends, it refuses and leaves the
@@ -256,7 +254,7 @@ fn whatever_comes_after_a_log_none_of_its_bytes_is_lost() {
         // Mostly marks and lengths that an entry can have, so that many of them are opened.
         for _ in 0..chance.up_to(5) {
             let mut page: Vec<u8> = (0..PAGE).map(|_| chance.up_to(255) as u8).collect();
-            page[..3].copy_from_slice(&[chance.up_to(20).saturating_sub(18) as u8, 0, chance.up_to(16) as u8]);
+            page[..3].copy_from_slice(&[[0, 0, 0, 1, 1, 1, 1, 2][chance.up_to(7)], 0, chance.up_to(16) as u8]);
             file.extend(page);
         }
         file.truncate(file.len() - chance.up_to((file.len() - bytes.len()).min(PAGE)));

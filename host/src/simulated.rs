@@ -140,17 +140,16 @@ impl Simulated {
         self.restart_with(self.after_steps(steps))
     }
 
-    /// The disk after a power failure that kept what was synced, and of the rest any sectors, in a file that may be
-    /// longer than they reach: where none was kept there are zeros, or the sector as it was.
+    /// The disk after a power failure that kept what was synced, and of the rest any sectors, in a file of the new length
+    /// or of one on the way to it. A sector that was not kept is as it was, or zeros where the file had none.
     pub(crate) fn restart_with_sectors(&self, chance: &mut Chance) -> Simulated {
-        let old = self.after_steps(0);
-        let new = self.bytes();
-        let mut file = old.clone();
-        file.resize(old.len().min(new.len()) + chance.up_to(old.len().abs_diff(new.len())), 0);
-        for (at, sector) in file.chunks_mut(SECTOR).enumerate() {
-            let at = at * SECTOR;
-            if at + sector.len() <= new.len() && chance.up_to(1) == 1 {
-                sector.copy_from_slice(&new[at..][..sector.len()]);
+        let (mut file, new) = (self.after_steps(0), self.bytes());
+        let between = file.len().min(new.len()) + chance.up_to(file.len().abs_diff(new.len()));
+        file.resize([new.len(), between][chance.up_to(1)], 0);
+        for (kept, written) in file.chunks_mut(SECTOR).zip(new.chunks(SECTOR)) {
+            if chance.up_to(1) == 1 {
+                let both = kept.len().min(written.len());
+                kept[..both].copy_from_slice(&written[..both]);
             }
         }
         self.restart_with(file)
@@ -190,6 +189,8 @@ impl Disk for Simulated {
     }
 
     fn write(&mut self, position: u64, bytes: &[u8]) -> io::Result<()> {
+        // A write that fails may harm whatever it is over, so a log must write after its end alone.
+        assert_eq!(position as usize, self.bytes().len());
         let (done, end) = self.begin(bytes.len());
         self.change(Change::Write { position: position as usize, bytes: bytes[..done].to_vec() });
         end

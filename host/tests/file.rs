@@ -229,7 +229,8 @@ fn the_file_and_its_folder_are_synced() {
     std::os::unix::fs::symlink(&log, &link).unwrap();
     let record = all.join("record.so");
     let source = Path::new(env!("CARGO_MANIFEST_DIR")).join("tests/record.c");
-    let compiled = Command::new("cc").args(["-shared", "-fPIC", "-o"]).args([&record, &source]).status().unwrap();
+    let compile = "${CC:-cc} -std=c11 -Wall -Wextra -Werror -pedantic -shared -fPIC -o \"$@\"";
+    let compiled = Command::new("sh").args(["-c", compile, "sh"]).args([&record, &source]).status().unwrap();
     assert!(compiled.success());
 
     let recorded = || {

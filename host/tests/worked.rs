@@ -182,6 +182,17 @@ fn recovery_drops_an_entry_that_is_cut() {
     assert_eq!((none.state(), cut_off), (State::fresh(), CutOff { excess: 0, dropped: 2 }));
 }
 
+/// Not what one crash leaves: a cut entry, and after it another.
+#[test]
+fn recovery_drops_again_what_is_cut_then() {
+    let log = log_of(&[(1, 8), (2, 3_000)], 3);
+    let after = log_of(&[(3, 2_000)], 4);
+    let bytes = [&log.bytes()[..3 * PAGE], &after.bytes()[..PAGE]].concat();
+    let (cut, cut_off) = Log::recover(bytes, 4 * 1024).unwrap();
+    assert_eq!(cut.state(), State { length: 1024, last: 1, next: 2 });
+    assert_eq!(cut_off, CutOff { excess: 0, dropped: 3 });
+}
+
 #[test]
 fn the_sequence_of_four() {
     let mut sequence = IdSequence::new(1);
