@@ -241,8 +241,8 @@ fn sectors_that_come_out_of_order_leave_what_was_settled() {
     assert!(without_page_0 > 0 && without_data > 0, "the cases that the comment tells of do not come up");
 }
 
-/// Of other bytes after the log, which no push wrote, this alone is promised: the opening ends, it refuses and leaves the
-/// file alone, or it cuts the file nowhere before the log's end.
+/// Of other bytes after the log, which no push wrote, this alone is promised: the opening refuses, though not for a cut
+/// entry, and leaves the file alone; or it cuts the file nowhere before the log's end.
 #[test]
 fn whatever_comes_after_a_log_none_of_its_bytes_is_lost() {
     let bytes = bytes_of(&[entry(1, 1), entry(2, 2), entry(3, 1)]);
@@ -261,8 +261,9 @@ fn whatever_comes_after_a_log_none_of_its_bytes_is_lost() {
         let disk = Simulated::with(&file);
         match open(&disk) {
             Ok(log) => assert!(log.log().bytes() == disk.bytes() && file.starts_with(log.log().bytes())),
-            Err(Error::Refused(_)) => {
+            Err(Error::Refused(refusal)) => {
                 refused += 1;
+                assert!(!matches!(refusal, Refusal::CutEntry { .. }));
                 assert!(disk.bytes() == file);
             }
             Err(other) => panic!("{other}"),
