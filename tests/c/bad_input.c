@@ -237,6 +237,59 @@ static awirbesh_state disordered_log(void)
     return state;
 }
 
+/* A start on a page, of an entry whose pages just reach `left`, or go past it. */
+static void put_start(uint64_t page, uint64_t left, int past)
+{
+    uint64_t most = 1020 + 1023 * (left - page - 1), payload = most - (one_in(2) ? 0 : below(1000));
+    if (past)
+        payload = most + 1 + (one_in(2) ? 0 : below(one_in(2) ? 2000 : 1 << 20));
+    store.bytes[page * PAGE] = 1;
+    for (uint64_t i = 0; i < 3; i++)
+        store.bytes[page * PAGE + 1 + i] = (uint8_t)(payload >> (16 - 8 * i));
+}
+
+/* Cut starts at a log's end, each cut by what is left once those after it are dropped, and then whatever comes. */
+static awirbesh_state torn_log(awirbesh_state state)
+{
+    uint64_t left = (one_in(3) ? store.len : state.length) / PAGE, drops = one_in(12) ? 64 : 1 + below(4);
+    state.length = left * PAGE;
+    for (; drops > 0 && left > 0; drops--) {
+        uint64_t page = left - 1 - below(one_in(2) || left < 5 ? 1 : 5);
+        put_start(page, left, 1);
+        for (uint64_t later = page + 1; later < left; later++)
+            store.bytes[later * PAGE] = 0;
+        left = page;
+    }
+    if (left == 0)
+        return state;
+    switch (below(10)) {
+    case 0: /* no start is left */
+        for (uint64_t page = 0; page < left; page++)
+            store.bytes[page * PAGE] = 0;
+        break;
+    case 1: /* a start on the last page left: whole, or cut, or short, or of the last id */
+        put_start(left - 1, left, one_in(4));
+        if (one_in(4)) {
+            memset(store.bytes + (left - 1) * PAGE + 1, 0, 2);
+            store.bytes[(left - 1) * PAGE + 3] = (uint8_t)below(9);
+        }
+        if (one_in(2))
+            memset(store.bytes + (left - 1) * PAGE + 4, 0xFF, 8);
+        break;
+    case 2: { /* one further down that just reaches the end of what is left, or is cut */
+        uint64_t page = below(left);
+        put_start(page, left, one_in(3));
+        for (page++; page < left; page++)
+            store.bytes[page * PAGE] = 0;
+        break;
+    }
+    case 3:
+    case 4:
+        damage(left * PAGE);
+    }
+    return state;
+}
+
 /* Fills the store and says what state the caller claims it has. */
 static awirbesh_state some_log(void)
 {
@@ -244,14 +297,19 @@ static awirbesh_state some_log(void)
     lend(&store, below(10) ? below(pages) * PAGE + (one_in(3) ? below(PAGE) : 0) : below(3), one_in(2));
     fill(&store, 1);
     awirbesh_state state = sound_log();
-    switch (below(8)) {
+    switch (below(10)) {
     case 0:
-        break;
     case 1:
+        break;
     case 2:
+    case 3:
         state = disordered_log();
         break;
-    case 3: /* bytes of no log, with marks that are often marks */
+    case 4:
+    case 5:
+        state = torn_log(state);
+        break;
+    case 6: /* bytes of no log, with marks that are often marks */
         for (size_t i = 0; i < store.len; i += PAGE) {
             for (size_t j = i; j < store.len && j < i + 12; j++)
                 store.bytes[j] = (uint8_t)chance();
@@ -304,14 +362,24 @@ static uint64_t some_id(awirbesh_state state)
 
 /* ---- the calls, each held to the model ---- */
 
-enum { TAKE, CHECK, RECOVER, FIND, LOOKUP, ABSENT, SCAN, STEP, ENDED, PUSH, AGAIN, NOTE, KINDS };
-static const char *const names[KINDS] = {"take", "check", "recover", "find", "lookup",  "  absent",
-                                         "scan", "step",  "  end",   "push", "  again", "note"};
+/* TORN are the recoveries that met a cut start first; of those that gave a state, TWICE dropped more than one start,
+ * PARTLY an excess too, EMPTIED everything. CUT are those of a sound log that was cut at any byte and lost pages. */
+enum { TAKE, CHECK, RECOVER, TORN, TWICE, PARTLY, EMPTIED, CUT };
+enum { FIND = CUT + 1, LOOKUP, ABSENT, SCAN, STEP, ENDED, PUSH, AGAIN, NOTE, KINDS };
+static const char *const names[KINDS] = {
+    "take", "check",  "recover",  "  torn", "  twice", "  partly", "  emptied", "  cut",   "find",
+    "lookup", "  absent", "scan", "step",   "  end",   "push",     "  again",   "note",
+};
 /* The refusals that the rules let each give, as bits. */
 static const uint32_t possible[KINDS] = {
     1u | 1u << 9,
     1u | 1u << 1 | 1u << 5 | 1u << 6 | 1u << 7 | 1u << 8 | 1u << 14 | 1u << 15,
-    1u | 1u << 1 | 1u << 5 | 1u << 6 | 1u << 7 | 1u << 8 | 1u << 9,
+    1u | 1u << 1 | 1u << 5 | 1u << 6 | 1u << 8 | 1u << 9,
+    1u | 1u << 5 | 1u << 6 | 1u << 8 | 1u << 9,
+    1u,
+    1u,
+    1u,
+    1u,
     1u | 1u << 1 | 1u << 5 | 1u << 6 | 1u << 7,
     1u | 1u << 1 | 1u << 5 | 1u << 6 | 1u << 7 | 1u << 10,
     1u,
@@ -330,11 +398,16 @@ static uint64_t counts[KINDS][17], calls;
             stop(what);                                   \
     } while (0)
 
-static void count(int kind, uint64_t number)
+static void count_case(int kind, uint64_t number)
 {
     if (number > 16 || !(possible[kind] >> number & 1))
         stop("an answer that the rules do not have");
     counts[kind][number]++;
+}
+
+static void count(int kind, uint64_t number)
+{
+    count_case(kind, number);
     calls++;
 }
 
@@ -353,12 +426,59 @@ static void try_check(awirbesh_state state)
     count(CHECK, got.number);
 }
 
-static void try_recover(awirbesh_state state)
+/* Whether the last start before the length is cut: a step from it is refused with 7. */
+static int ends_cut(uint64_t length)
 {
-    awirbesh_recovered got = awirbesh_recover(store.bytes, store.len, state.length);
-    awirbesh_recovered expected = model_recover(store.copy, store.len, state.length);
+    const awirbesh_range all = {{AWIRBESH_OPEN, 0}, {AWIRBESH_OPEN, 0}};
+    awirbesh_state state = {length / PAGE * PAGE, 0, 0};
+    uint64_t at = state.length;
+    while (at > 0 && store.copy[at - PAGE] == 0)
+        at -= PAGE;
+    return at > 0 && model_step(store.copy, store.len, state, all, at - PAGE, out.copy, 0).number == 7;
+}
+
+/* Starts among the pages that a recovery dropped. Each was cut. */
+static int starts_dropped(awirbesh_recovered r)
+{
+    int starts = 0;
+    for (uint64_t page = 0; page < r.dropped; page++)
+        starts += store.copy[r.state.length + page * PAGE] == 1;
+    return starts;
+}
+
+static awirbesh_recovered try_recover(uint64_t length)
+{
+    awirbesh_recovered got = awirbesh_recover(store.bytes, store.len, length);
+    awirbesh_recovered expected = model_recover(store.copy, store.len, length);
     MUST_EQUAL("recover", got, expected);
     count(RECOVER, got.number);
+    if (got.number != AWIRBESH_BAD_STATE && ends_cut(length)) {
+        count_case(TORN, got.number);
+        if (got.number == 0 && starts_dropped(got) > 1)
+            count_case(TWICE, 0);
+        if (got.number == 0 && got.excess)
+            count_case(PARTLY, 0);
+        if (got.number == 0 && got.state.length == 0)
+            count_case(EMPTIED, 0);
+    }
+    return got;
+}
+
+/* A cut of the log at any byte. Of a sound log a sound one is left, and what is gone adds up to the cut. */
+static void try_cut(awirbesh_state state)
+{
+    uint64_t length = state.length < store.len ? state.length : store.len, cut = below(length + 1);
+    awirbesh_recovered r = try_recover(cut);
+    if (model_check(store.copy, store.len, state.length).number)
+        return;
+    if (r.number == AWIRBESH_IDS_USED_UP)
+        return;
+    if (r.number || r.state.length + PAGE * r.dropped + r.excess != cut || r.excess >= PAGE)
+        stop("what a cut took does not add up");
+    if (awirbesh_check(store.bytes, store.len, r.state.length).number)
+        stop("a cut left a log that is not sound");
+    if (r.dropped)
+        count_case(CUT, 0);
 }
 
 static void lend_out(void)
@@ -603,7 +723,8 @@ static void round_of_calls(void)
     remember(&store);
     try_take(state);
     try_check(state);
-    try_recover(state);
+    try_recover(state.length);
+    try_cut(state);
     for (int i = 0; i < 4; i++)
         try_lookup(state);
     for (int i = 0; i < 2; i++)

@@ -1,6 +1,6 @@
 /* Calls each function of awirbesh.h and holds its whole answer to the worked cases of docs/RULES.md 13; pushes
- * secrets, of which nothing may stay in the filling, docs/RULES.md 1.8; and pushes entries that were refused again,
- * with the ids that they keep, docs/RULES.md 4.3. */
+ * secrets, of which nothing may stay in the filling, docs/RULES.md 1.8; pushes entries that were refused again, with
+ * the ids that they keep, docs/RULES.md 4.3; and recovers logs whose end is cut, docs/RULES.md 6. */
 #include "awirbesh.h"
 
 #include <stdio.h>
@@ -101,7 +101,9 @@ static void two_entries(void)
 
     awirbesh_recovered r = awirbesh_recover(store, sizeof store, 1030);
     same("recover number", r.number, AWIRBESH_OK);
+    same("recover value", r.value, 0);
     same("recover excess", r.excess, 6);
+    same("recover dropped", r.dropped, 0);
     same_state("recover", r.state, 1024, 1, 2);
     r = awirbesh_recover(store, sizeof store, 3072);
     same("recover a bad mark", r.number, AWIRBESH_BAD_MARK);
@@ -465,6 +467,95 @@ static void refused_entries_keep_their_ids(void)
     first_test_that_fails(store);
 }
 
+/* ---- logs whose end is cut ---- */
+
+/* Puts a page there: a start of so many bytes of payload, with an id; or with no payload an idle page or a later one.
+ * What a recovery does not read is not zero. */
+static void put_page(uint8_t *store, size_t page, uint64_t payload, uint64_t id)
+{
+    uint8_t *at = store + page * PAGE;
+    memset(at, OLD, PAGE);
+    at[0] = payload > 0;
+    for (int i = 0; payload > 0 && i < 3; i++)
+        at[1 + i] = (uint8_t)(payload >> (16 - 8 * i));
+    for (int i = 0; payload > 0 && i < 8; i++)
+        at[4 + i] = (uint8_t)(id >> (56 - 8 * i));
+}
+
+/* The pages of a store, as payload and id, and what its recovery at a length answers, all of it. */
+typedef struct {
+    const char *what;
+    struct {
+        uint64_t payload, id;
+    } pages[8];
+    size_t count, length;
+    awirbesh_recovered expected;
+} torn;
+
+static const torn torn_logs[] = {
+    /* 1,021 bytes of payload take 2 pages, 2,043 too, 2,044 take 3, 16,777,215 take 16,401 */
+    {"a start of two pages alone", {{1021, 1}}, 1, 1024, {0, 0, 0, 1, {0, 0, 1}}},
+    {"it and all but a byte of its second", {{1021, 1}, {0, 0}}, 2, 2047, {0, 0, 1023, 1, {0, 0, 1}}},
+    {"both of its pages", {{1021, 1}, {0, 0}}, 2, 2048, {0, 0, 0, 0, {2048, 1, 2}}},
+    {"after an entry", {{8, 4}, {2044, 6}, {0, 0}}, 3, 3072, {0, 0, 0, 2, {1024, 4, 5}}},
+    {"after an entry, with an excess", {{8, 4}, {2044, 6}, {0, 0}, {0, 0}}, 4, 3073, {0, 0, 1, 2, {1024, 4, 5}}},
+    {"no longer cut", {{8, 4}, {2044, 6}, {0, 0}, {0, 0}}, 4, 4096, {0, 0, 0, 0, {4096, 6, 7}}},
+    {"of the largest payload", {{8, 4}, {16777215, 6}, {0, 0}}, 3, 3072, {0, 0, 0, 2, {1024, 4, 5}}},
+    {"idle pages before it stay", {{8, 4}, {0, 0}, {0, 0}, {1021, 6}}, 4, 4096, {0, 0, 0, 1, {3072, 4, 5}}},
+    {"an entry of two before it", {{2043, 4}, {0, 0}, {2044, 6}, {0, 0}}, 4, 4096, {0, 0, 0, 2, {2048, 4, 5}}},
+    /* page 0 would be whole if the start on page 1 were its second page: it is cut by what is left */
+    {"two starts", {{1021, 4}, {1021, 6}}, 2, 2048, {0, 0, 0, 2, {0, 0, 1}}},
+    {"two starts after an entry", {{8, 4}, {1021, 6}, {1021, 7}}, 3, 3072, {0, 0, 0, 2, {1024, 4, 5}}},
+    {"two of three, the first whole", {{1021, 4}, {0, 0}, {2044, 6}, {0, 0}, {1021, 7}}, 5, 5120,
+     {0, 0, 0, 3, {2048, 4, 5}}},
+    {"three starts, and an excess", {{8, 4}, {2044, 6}, {2044, 7}, {0, 0}, {1021, 8}, {0, 0}}, 6, 6143,
+     {0, 0, 1023, 4, {1024, 4, 5}}},
+    {"a whole start between two cut ones", {{2044, 4}, {8, 6}, {1021, 7}}, 3, 3072, {0, 0, 0, 1, {2048, 6, 7}}},
+    {"ids are not compared", {{8, 9}, {8, 0}, {1021, 7}}, 3, 3072, {0, 0, 0, 1, {2048, 0, 1}}},
+    {"seven starts, all dropped", {{1021, 1}, {1021, 2}, {1021, 3}, {1021, 4}, {1021, 5}, {1021, 6}, {1021, 7}}, 7, 7168,
+     {0, 0, 0, 7, {0, 0, 1}}},
+    /* the last id of all, met after a drop; in a cut entry it is dropped with it */
+    {"9 after a drop", {{8, 4}, {8, UINT64_MAX}, {1021, 7}}, 3, 3072, {9, 0, 0, 0, {0, 0, 0}}},
+    {"9 after a drop, with an excess", {{8, UINT64_MAX}, {1021, 7}, {0, 0}}, 3, 2500, {9, 0, 0, 0, {0, 0, 0}}},
+    {"a cut entry of that id", {{8, 4}, {1021, UINT64_MAX}}, 2, 2048, {0, 0, 0, 1, {1024, 4, 5}}},
+    {"the id before it", {{8, UINT64_MAX - 1}, {1021, UINT64_MAX}}, 2, 2048,
+     {0, 0, 0, 1, {1024, UINT64_MAX - 1, UINT64_MAX}}},
+    {"6 before a drop", {{8, 4}, {7, 6}}, 2, 2048, {6, 1, 0, 0, {0, 0, 0}}},
+    {"6 after a drop", {{8, 4}, {7, 6}, {1021, 7}}, 3, 3072, {6, 1, 0, 0, {0, 0, 0}}},
+    {"8 after a drop", {{0, 0}, {0, 0}, {1021, 7}, {0, 0}}, 4, 3072, {8, 0, 0, 0, {0, 0, 0}}},
+};
+
+static void same_recovery(const char *what, awirbesh_recovered r, awirbesh_recovered expected)
+{
+    same(what, r.number, expected.number);
+    same(what, r.value, expected.value);
+    same(what, r.excess, expected.excess);
+    same(what, r.dropped, expected.dropped);
+    same_state(what, r.state, expected.state.length, expected.state.last, expected.state.next);
+}
+
+static void logs_that_are_torn(void)
+{
+    static uint8_t store[STORE], before[STORE];
+    for (size_t i = 0; i < sizeof torn_logs / sizeof *torn_logs; i++) {
+        const torn *t = &torn_logs[i];
+        memset(store, OLD, STORE);
+        for (size_t page = 0; page < t->count; page++)
+            put_page(store, page, t->pages[page].payload, t->pages[page].id);
+        memcpy(before, store, STORE);
+        same_recovery(t->what, awirbesh_recover(store, STORE, t->length), t->expected);
+        same_bytes(t->what, store, before, STORE);
+        /* the same in a store that ends there, as the mark that stands after it is none of the log's */
+        same_recovery(t->what, awirbesh_recover(store, t->length, t->length), t->expected);
+    }
+    /* 5 after a drop, and none for a bad mark below the last whole entry */
+    memset(store, OLD, STORE);
+    put_page(store, 2, 1021, 7);
+    same_recovery("5 after a drop", awirbesh_recover(store, STORE, 3072), (awirbesh_recovered){5, 1, 0, 0, {0, 0, 0}});
+    put_page(store, 1, 8, 4);
+    same_recovery("5 is not met", awirbesh_recover(store, STORE, 3072), (awirbesh_recovered){0, 0, 0, 1, {2048, 4, 5}});
+}
+
 /* A store of exactly 2^31 bytes is one, and of one byte more is none. Only pages that are read are ever there. */
 static void largest_store(void)
 {
@@ -484,6 +575,17 @@ static void largest_store(void)
     awirbesh_state found = {limit, 3, 4};
     same("lookup in 2^31", awirbesh_lookup(store, limit, found, 3, out, 1).position, limit - 1024);
     same("check of 2^31", awirbesh_check(store, limit, limit).number, AWIRBESH_NO_ENTRIES);
+    r = awirbesh_recover(store, limit, limit - 1); /* all marks down to page 0 are 0 */
+    same_recovery("recover 2^31 less one", r, (awirbesh_recovered){AWIRBESH_NO_ENTRIES, 0, 0, 0, {0, 0, 0}});
+    put_page(store, 0, 8, 2);
+    put_page(store, limit / PAGE - 1, 16777215, 3);
+    r = awirbesh_recover(store, limit, limit);
+    same_recovery("a torn one of 2^31", r, (awirbesh_recovered){0, 0, 0, 1, {limit - 1024, 2, 3}});
+    put_page(store, 1, 16777215, 3); /* pages 1 to 16,401, of which a byte is missing */
+    r = awirbesh_recover(store, limit, 16402 * PAGE - 1);
+    same_recovery("the largest entry, torn", r, (awirbesh_recovered){0, 0, 1023, 16400, {1024, 2, 3}});
+    r = awirbesh_recover(store, limit, 16402 * PAGE);
+    same_recovery("the largest entry, whole", r, (awirbesh_recovered){0, 0, 0, 0, {16402 * PAGE, 3, 4}});
 
     same("check above", awirbesh_check(store, limit + 1, 0).number, AWIRBESH_BAD_STATE);
     same("recover above", awirbesh_recover(store, limit + 1, 0).number, AWIRBESH_BAD_STATE);
@@ -526,6 +628,7 @@ int main(void)
     two_entries();
     no_old_bytes_in_the_filling();
     refused_entries_keep_their_ids();
+    logs_that_are_torn();
     largest_store();
     sequences();
     if (!failed)

@@ -103,38 +103,36 @@ awirbesh_checked model_check(const uint8_t *store, size_t store_len, uint64_t le
 
 awirbesh_recovered model_recover(const uint8_t *store, size_t store_len, uint64_t length)
 {
-    awirbesh_recovered r = {0, 0, 0, {0, 0, 0}};
+    const awirbesh_recovered refused = {0, 0, 0, 0, {0, 0, 0}};
+    awirbesh_recovered r = refused;
     if (store_len > STORE_LIMIT || length > store_len) {
         r.number = 1;
         return r;
     }
-    uint64_t pages = length / PAGE, page = pages;
-    if (pages == 0) {
-        r.excess = length;
-        r.state.next = 1;
-        return r;
-    }
-    for (;;) {
-        page--;
-        uint8_t mark = store[page * PAGE];
-        if (mark == 1)
-            break;
-        if (mark != 0 || page == 0) {
-            r.number = mark != 0 ? 5 : 8;
-            r.value = page;
+    uint64_t pages = length / PAGE;
+    r.excess = length % PAGE;
+    while (pages > 0) {
+        uint64_t page = pages - 1;
+        while (store[page * PAGE] == 0 && page > 0)
+            page--;
+        start s = {store[page * PAGE] == 0 ? 8 : 5, 0, 0, 0};
+        if (store[page * PAGE] == 1)
+            s = start_at(store, pages, page);
+        if (s.refusal == 7) {
+            r.dropped += pages - page;
+            pages = page;
+            continue;
+        }
+        if (s.refusal || s.id == UINT64_MAX) {
+            r = refused;
+            r.number = s.refusal ? s.refusal : 9;
+            r.value = s.refusal ? page : 0;
             return r;
         }
-    }
-    start s = start_at(store, pages, page);
-    if (s.refusal) {
-        r.number = s.refusal;
-        r.value = page;
-    } else if (s.id == UINT64_MAX) {
-        r.number = 9;
-    } else {
-        r.excess = length % PAGE;
         r.state = (awirbesh_state){pages * PAGE, s.id, s.id + 1};
+        return r;
     }
+    r.state = (awirbesh_state){0, 0, 1};
     return r;
 }
 

@@ -9,9 +9,10 @@
 
 enum { STACK = 1 << 18, LIMIT = 16 * 1024, PAINT = 0xA7, STORE = 1100 * 1024, DATA = 1 << 20 };
 
-static uint8_t stack[STACK], *store, *data, *out;
+static uint8_t stack[STACK], *store, *torn, *data, *out;
 static uint64_t words[AWIRBESH_SEQUENCE_WORDS];
 static awirbesh_state state;
+static uint64_t dropped;
 static ucontext_t here, there;
 
 static const uint64_t ids[4] = {1, 3, 4, 9}, ends[4] = {10, 3010, 3010, DATA};
@@ -23,6 +24,7 @@ static void push(void) { state = awirbesh_push(store, STORE, state, ids, 4, ends
 static void take(void) { state = awirbesh_take(state).state; }
 static void check(void) { awirbesh_check(store, STORE, state.length); }
 static void recover(void) { state = awirbesh_recover(store, STORE, state.length).state; }
+static void recover_torn(void) { dropped = awirbesh_recover(torn, STORE, STORE).dropped; }
 static void lookup(void) { awirbesh_lookup(store, STORE, state, 9, out, DATA); }
 static void find(void) { awirbesh_find(store, STORE, state, 9); }
 static void scan(void) { awirbesh_scan(store, STORE, state, part); }
@@ -35,9 +37,9 @@ static const struct {
     const char *name;
     void (*call)(void);
 } calls[] = {
-    {"fresh", fresh},   {"push", push}, {"take", take}, {"check", check}, {"recover", recover}, {"find", find},
-    {"lookup", lookup}, {"scan", scan}, {"step", step}, {"sequence_new", sequence_new},
-    {"sequence_note", sequence_note},   {"sequence_complete", sequence_complete},
+    {"fresh", fresh},     {"push", push}, {"take", take}, {"check", check}, {"recover", recover},
+    {"  torn", recover_torn}, {"find", find}, {"lookup", lookup}, {"scan", scan}, {"step", step},
+    {"sequence_new", sequence_new}, {"sequence_note", sequence_note}, {"sequence_complete", sequence_complete},
 };
 
 static size_t used_by(void (*call)(void))
@@ -59,10 +61,13 @@ int main(void)
 {
     int failed = 0;
     store = calloc(STORE, 1);
+    torn = calloc(STORE, 1);
     data = calloc(DATA, 1);
     out = calloc(DATA, 1);
-    if (!store || !data || !out)
+    if (!store || !torn || !data || !out)
         abort();
+    for (size_t at = 0; at < STORE; at += 1024) /* each page a start whose entry has two */
+        memcpy(torn + at, "\1\0\4\0", 4);
     size_t base = used_by(nothing);
     for (size_t i = 0; i < sizeof calls / sizeof *calls; i++) {
         size_t used = used_by(calls[i].call) - base;
@@ -70,8 +75,9 @@ int main(void)
         if (used >= LIMIT)
             failed = 1;
     }
-    /* The calls did their work: the four entries take 1, 3, 1 and 1,023 pages, and recovery met the last. */
-    if (state.length != (uint64_t)(1 + 3 + 1 + 1023) * 1024 || state.next != 10)
+    /* The calls did their work: the four entries take 1, 3, 1 and 1,023 pages, and recovery met the last, or dropped
+     * every page. */
+    if (state.length != (uint64_t)(1 + 3 + 1 + 1023) * 1024 || state.next != 10 || dropped != STORE / 1024)
         failed = 1;
     printf(failed ? "too much stack, or a call that did nothing\n" : "each under 16 KiB\n");
     return failed;
