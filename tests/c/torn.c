@@ -248,6 +248,24 @@ static void cut_everywhere(const size *sizes, int filling)
     }
 }
 
+/* The last id of all, which no log goes on from: 9 where its entry is whole, else it is dropped like any other. */
+static void cut_the_last_id(void)
+{
+    static uint8_t store[STORE];
+    held log = {.count = 0};
+    what = "the last id of all";
+    awirbesh_state state = push(store, awirbesh_fresh(), &log, &(size){1013, 2}, 1, 1);
+    state.next = UINT64_MAX;
+    state = push(store, state, &log, &(size){2036, 3}, 1, 1);
+    for (cut = 0; cut < state.length; cut++) {
+        held left = left_by(&log, cut);
+        look_up(store, recover(store, &left, cut), &left, 3, 1);
+    }
+    awirbesh_recovered r = awirbesh_recover(store, STORE, cut);
+    must(r.number == AWIRBESH_IDS_USED_UP && r.value == 0 && r.excess == 0 && r.dropped == 0, "9 is not answered");
+    must_be(r.state, 0, 0, 0, "9 is answered with a state");
+}
+
 /* ---- one pass ---- */
 
 static double seconds(void)
@@ -291,6 +309,7 @@ static void many_cut_starts(void)
     enum { MANY = 65536, FEW = MANY / 4, TURNS = 100 };
     double many = 1e9, few = 1e9, begun = seconds();
     what = "many cut starts";
+    cut = (uint64_t)MANY * PAGE;
     uint8_t *store = cut_starts((size_t)MANY * PAGE);
     for (int turn = 0; turn < TURNS && (turn == 0 || seconds() < begun + 2); turn++) {
         double took = time_of(store, FEW);
@@ -313,6 +332,7 @@ int main(void)
             what = fillings[filling];
             cut_everywhere(pushed[i], filling);
         }
+    cut_the_last_id();
     printf("%llu cuts, each with the entries that end before it, and gone on with\n", (unsigned long long)cases);
     many_cut_starts();
     return 0;
