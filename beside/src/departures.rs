@@ -1,7 +1,7 @@
 //! Why the Rust departs: each departure is an entry of docs/DIFFERENCES.md, told by its cause, not its answer alone.
 use nebari::transaction::log::probe::guess;
 
-use crate::{layout, rust::caught, Entry, Held, Looked, Pair, Push, PushedBy, State, PAGE, TOO_LARGE};
+use crate::{layout, rust::caught, Entry, Held, Looked, Pair, Push, PushedBy, RecoveredBy, State, PAGE, TOO_LARGE};
 
 /// An entry of docs/DIFFERENCES.md that explains a disagreement on the compared domain.
 #[derive(Clone, Copy, Debug, PartialEq, Eq, PartialOrd, Ord)]
@@ -13,6 +13,8 @@ pub enum Departure {
     StaleFilling,
     RefusedId,
     NoRoom,
+    TornEntry,
+    PartPage,
     LowNote,
     WideNote,
     LastNote,
@@ -20,7 +22,7 @@ pub enum Departure {
 }
 
 impl Departure {
-    pub const ALL: [Departure; 11] = [
+    pub const ALL: [Departure; 13] = [
         Departure::LaterPages,
         Departure::IdlePages,
         Departure::FarApart,
@@ -28,6 +30,8 @@ impl Departure {
         Departure::StaleFilling,
         Departure::RefusedId,
         Departure::NoRoom,
+        Departure::TornEntry,
+        Departure::PartPage,
         Departure::LowNote,
         Departure::WideNote,
         Departure::LastNote,
@@ -44,6 +48,8 @@ impl Departure {
             Departure::StaleFilling => "Bytes of an earlier page after the payload",
             Departure::RefusedId => "The id of a refused entry",
             Departure::NoRoom => "A store has an end",
+            Departure::TornEntry => "An entry that was cut short",
+            Departure::PartPage => "Less than a page",
             Departure::LowNote => "An id noted below the start",
             Departure::WideNote => "An id noted outside the window",
             Departure::LastNote => "The last id noted",
@@ -148,6 +154,37 @@ pub fn of_push(push: &Push, ours: &PushedBy, rust: &PushedBy) -> Option<Departur
     let met_by_three = refused.id > kept.last && refused.data.len() == TOO_LARGE;
     let departs = *ours == answer(kept.last) && *rust == answer(refused.id);
     (met_by_three && departs).then_some(Departure::RefusedId)
+}
+
+/// The departure that the Rust's recovery of the first bytes of a log must show, if any: they end in an entry of which
+/// pages are missing, or they are less than a page.
+pub fn due_at_cut(pair: &Pair, at: u64) -> Option<Departure> {
+    if at > 0 && at < PAGE {
+        return Some(Departure::PartPage);
+    }
+    pair.cut_entry(at).map(|_| Departure::TornEntry)
+}
+
+/// Whether the Rust's answer to such a recovery is just what the departure says. In either case it has cut the excess off
+/// the file before it fails.
+pub fn is_at_cut(departure: Departure, at: u64, rust: &RecoveredBy) -> bool {
+    let file = at - at % PAGE;
+    match departure {
+        // It reads the entry whole, and comes to the file's end.
+        Departure::TornEntry => {
+            let eof = r#"Io(Error { kind: UnexpectedEof, message: "failed to fill whole buffer" })"#;
+            *rust == RecoveredBy::Refused(format!("{eof}, file of {file} bytes"))
+        }
+        // It takes a page off a length of 0: the difference overflows, or is a place past the file's end.
+        Departure::PartPage if cfg!(debug_assertions) => {
+            *rust == RecoveredBy::Panicked("attempt to subtract with overflow".into())
+        }
+        Departure::PartPage => {
+            let none = r#"DataIntegrity(Error { kind: Message("No entries found in an existing transaction log") })"#;
+            *rust == RecoveredBy::Refused(format!("{none}, file of {file} bytes"))
+        }
+        _ => false,
+    }
 }
 
 /// A departure names its cause and nothing else: answers that no cause explains stay without a name.
@@ -350,6 +387,67 @@ mod tests {
             for rust in [&ours, &rust] {
                 let said = said_of(ours.clone(), rust.clone()).unwrap_err();
                 assert!(said.contains("the library's state"), "{said}");
+            }
+        }
+    }
+
+    /// Entries 1 (page 0) and 2 (pages 2 to 4), an idle page between them; and what either side says of a cut.
+    fn cut_log() -> Pair {
+        let (mut pair, mut tally) = (Pair::with_capacity(8), Tally::default());
+        pair.push(&[Entry { id: 1, data: vec![0x61; 5] }], &mut tally);
+        pair.add_idle_page(0);
+        pair.push(&[Entry { id: 2, data: vec![0x62; 3_000] }], &mut tally);
+        pair.set_next(3);
+        pair
+    }
+
+    fn at(length: u64, last: u64, file: u64) -> RecoveredBy {
+        RecoveredBy::At { state: State { length, last, next: last + 1 }, file }
+    }
+
+    fn cut_said(cut: u64, ours: &RecoveredBy, rust: &RecoveredBy) -> Result<u64, String> {
+        let mut tally = Tally::default();
+        caught(|| cut_log().compare_recovered(cut, ours, rust, &mut tally))?;
+        Ok(tally.needed.values().map(|needed| needed.times).sum())
+    }
+
+    fn end_of_file(file: u64) -> RecoveredBy {
+        let text = r#"Io(Error { kind: UnexpectedEof, message: "failed to fill whole buffer" })"#;
+        RecoveredBy::Refused(format!("{text}, file of {file} bytes"))
+    }
+
+    #[test]
+    fn any_other_answer_to_a_cut_has_no_rule() {
+        let (ours, rust) = (at(2_048, 1, 2_048), end_of_file(4_096));
+        assert_eq!(cut_said(4_500, &ours, &rust), Ok(1));
+        let other = |text: &str| RecoveredBy::Refused(format!("{text}, file of 4096 bytes"));
+        let panic = RecoveredBy::Panicked("attempt to subtract with overflow".into());
+        let others = [end_of_file(4_500), end_of_file(2_048), other("No entries found"), panic, at(4_096, 2, 4_096)];
+        // What we answer is no departure either: the Rust does not answer it.
+        for rust in others.iter().chain([&ours]) {
+            let said = cut_said(4_500, &ours, rust).unwrap_err();
+            assert!(said.starts_with("no departure names it"), "{said}");
+        }
+        // Where the entry is whole, or none of its pages is there, nothing is due.
+        for (cut, left) in [(5_120, at(5_120, 2, 5_120)), (3_071, at(2_048, 1, 2_048)), (1_024, at(1_024, 1, 1_024))] {
+            assert_eq!(cut_said(cut, &left, &left), Ok(0));
+            let said = cut_said(cut, &left, &end_of_file(cut / PAGE * PAGE)).unwrap_err();
+            assert!(said.contains("the Rust's recovery"), "{said}");
+        }
+    }
+
+    /// A library that answers as the Rust does, or as one without the change did, is not let through.
+    #[test]
+    fn our_recovery_is_that_of_the_rules() {
+        let rust = end_of_file(4_096);
+        let seven = RecoveredBy::Refused("refusal 7: cut entry on page 2".into());
+        let kept = [at(4_096, 2, 4_096), at(4_096, 1, 4_096), at(2_048, 2, 2_048)];
+        // The idle page dropped too, everything dropped, the file not cut, or cut to more or less than the log.
+        let others = [at(1_024, 1, 1_024), at(0, 0, 0), at(2_048, 1, 4_096), at(2_048, 1, 3_072), at(2_048, 1, 1_024)];
+        for ours in [rust.clone(), seven].iter().chain(&kept).chain(&others) {
+            for rust in [&rust, ours] {
+                let said = cut_said(4_500, ours, rust).unwrap_err();
+                assert!(said.contains("the library's recovery"), "{said}");
             }
         }
     }

@@ -1,7 +1,7 @@
 //! The proved library's side: a store, a state, and a call of the archive for each question.
 use awirbesh::{ffi, lent, Look, Refusal, State, Step};
 
-use crate::{Entry, Ids, Looked, PushedBy, RecoveredBy, Scanned};
+use crate::{Entry, Ids, Looked, PushedBy, RecoveredBy, Scanned, PAGE};
 
 #[derive(Clone)]
 pub struct Ours {
@@ -96,9 +96,14 @@ impl Ours {
     }
 }
 
+/// The library's recovery of these bytes, and the length that its caller cuts the file to.
 pub fn recover(bytes: &[u8]) -> RecoveredBy {
     match lent::recover(bytes, bytes.len() as u64) {
-        Ok(r) => RecoveredBy::At { state: r.state, file: bytes.len() as u64 - r.excess },
+        Ok(r) => {
+            // So the length says how much of what is gone is excess, and how much was dropped.
+            assert!(r.excess < PAGE, "an excess of {}", r.excess);
+            RecoveredBy::At { state: r.state, file: bytes.len() as u64 - r.excess - r.dropped * PAGE }
+        }
         Err(refusal) => RecoveredBy::Refused(said(refusal)),
     }
 }

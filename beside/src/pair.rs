@@ -247,6 +247,55 @@ impl Pair {
         tally.compared("recoveries");
     }
 
+    /// The entry of which a cut at a byte leaves the start, but not all pages.
+    pub fn cut_entry(&self, at: u64) -> Option<&Held> {
+        self.held.iter().find(|held| (held.page + 1) * PAGE <= at && at < (held.page + held.pages) * PAGE)
+    }
+
+    /// What the rules say of the log's first bytes: the entries that end before the cut, and the pages before it but for
+    /// those of a cut entry (docs/RULES.md 11.4).
+    pub fn left_by(&self, at: u64) -> State {
+        let length = self.cut_entry(at).map_or(at - at % PAGE, |held| held.page * PAGE);
+        let whole = |held: &&Held| (held.page + held.pages) * PAGE <= at;
+        let last = self.held.iter().take_while(whole).last().map_or(0, |held| held.id);
+        State { length, last, next: last + 1 }
+    }
+
+    /// Recovers the first bytes of the log on both sides, as a crash leaves them, each from its own pages and from the
+    /// other's; and what is left of them once more. Not for the last id of all.
+    pub fn compare_cut(&self, at: u64, tally: &mut Tally) {
+        let left = self.left_by(at);
+        for log in [self.ours.bytes(), &self.rust.file.bytes] {
+            let bytes = &log[..at as usize];
+            self.compare_recovered(at, &crate::ours::recover(bytes), &crate::rust::recover(bytes), tally);
+            // Where the Rust fails, it goes on with the file that our recovery cuts: on the same state.
+            if departures::due_at_cut(self, at).is_some() {
+                let again = RecoveredBy::At { state: left, file: left.length };
+                let bytes = &log[..left.length as usize];
+                for by in [crate::ours::recover(bytes), crate::rust::recover(bytes)] {
+                    assert_eq!(by, again, "what is left of {}, cut at {at}", self.words());
+                }
+            }
+        }
+        tally.compared("recoveries of cut logs");
+    }
+
+    /// Compares what the two sides answered to a recovery of the log's first bytes: ours must be what the rules say, and
+    /// the Rust's the same, or exactly what a departure says where one is due.
+    pub fn compare_recovered(&self, at: u64, by_ours: &RecoveredBy, by_rust: &RecoveredBy, tally: &mut Tally) {
+        let input = || format!("{}; cut at {at}", self.words());
+        let left = self.left_by(at);
+        let truth = RecoveredBy::At { state: left, file: left.length };
+        assert_eq!(*by_ours, truth, "the library's recovery of {}", input());
+        match departures::due_at_cut(self, at) {
+            None => assert_eq!(*by_rust, truth, "the Rust's recovery of {}", input()),
+            Some(departure) if departures::is_at_cut(departure, at, by_rust) => {
+                tally.name(departure, (at, self.pages(), self.state().next), input);
+            }
+            Some(_) => panic!("no departure names it: {}: the Rust {by_rust:?}", input()),
+        }
+    }
+
     /// The log is in the compared domain: sound, with either side's filling, and every id is below next.
     pub fn assert_in_domain(&self) {
         lent::check(&self.ours.store, self.state().length).expect("a sound log");

@@ -170,18 +170,68 @@ fn the_id_of_a_refused_entry() {
     }
 }
 
+/// A recovery of the first bytes of a log, after ours was found to be what the rules say: the Rust's answer.
+fn recovered(pair: &Pair, at: u64, left: State) -> RecoveredBy {
+    let bytes = &pair.ours.bytes()[..at as usize];
+    assert_eq!(ours::recover(bytes), RecoveredBy::At { state: left, file: left.length });
+    assert_eq!(pair.left_by(at), left);
+    rust::recover(bytes)
+}
+
+const FRESH: State = State { length: 0, last: 0, next: 1 };
+
+/// The last entry lost pages in a crash: the Rust cannot open the log any more, the library drops the entry.
 #[test]
-fn a_log_under_one_page() {
-    assert_eq!(ours::recover(&[1]), RecoveredBy::At { state: State { length: 0, last: 0, next: 1 }, file: 0 });
-    assert_eq!(lent::recover(&[1], 1).unwrap().excess, 1);
-    match rust::recover(&[1]) {
-        RecoveredBy::Panicked(text) if CHECKED => assert_eq!(text, "attempt to subtract with overflow"),
-        RecoveredBy::Refused(text) if !CHECKED => {
-            assert!(text.contains("No entries found"), "{text}");
-            assert!(text.ends_with("file of 0 bytes"), "{text}");
-        }
-        other => panic!("{other:?}"),
+fn an_entry_that_was_cut_short() {
+    let eof = |file: u64| {
+        let text = r#"Io(Error { kind: UnexpectedEof, message: "failed to fill whole buffer" })"#;
+        RecoveredBy::Refused(format!("{text}, file of {file} bytes"))
+    };
+    let smallest = log_of(&[(1, 1_021)], 2);
+    assert_eq!(recovered(&smallest, 1_024, FRESH), eof(1_024));
+    // All but one byte is there, and a part page is cut off before it fails.
+    assert_eq!(recovered(&smallest, 2_047, FRESH), eof(1_024));
+    let whole = State { length: 2_048, last: 1, next: 2 };
+    assert_eq!(recovered(&smallest, 2_048, whole), RecoveredBy::At { state: whole, file: 2_048 });
+    let r = lent::recover(smallest.ours.bytes(), 2_047).unwrap();
+    assert_eq!((r.state, r.excess, r.dropped), (FRESH, 1_023, 1));
+
+    // The entry before it, and an idle page, are what is left here.
+    let longer = log_of(&[(1, 8), (0, 0), (2, 3_000)], 3);
+    let left = State { length: 2_048, last: 1, next: 2 };
+    for (at, file) in [(3_072, 3_072), (4_000, 3_072), (4_096, 4_096), (5_119, 4_096)] {
+        assert_eq!(recovered(&longer, at, left), eof(file));
     }
+    let mut tally = Tally::default();
+    for at in 1_024..=5_120 {
+        assert_eq!(longer.cut_entry(at).is_some(), (3_072..5_120).contains(&at));
+    }
+    longer.compare_cut(5_119, &mut tally);
+    assert_eq!(tally.times(Departure::TornEntry), 2);
+
+    // Nothing shorter shows it: of fewer bytes no page is left, and an entry of one page is whole or not there.
+    let one = log_of(&[(1, 1_020)], 2);
+    for at in 0..=1_024 {
+        assert_eq!((smallest.cut_entry(at).is_some(), one.cut_entry(at)), (at == 1_024, None));
+    }
+}
+
+#[test]
+fn less_than_a_page() {
+    let pair = log_of(&[(1, 8)], 2);
+    for at in [1, 1_023] {
+        match recovered(&pair, at, FRESH) {
+            RecoveredBy::Panicked(text) if CHECKED => assert_eq!(text, "attempt to subtract with overflow"),
+            RecoveredBy::Refused(text) if !CHECKED => {
+                assert!(text.contains("No entries found"), "{text}");
+                assert!(text.ends_with("file of 0 bytes"), "{text}");
+            }
+            other => panic!("{other:?}"),
+        }
+    }
+    assert_eq!(lent::recover(&[1], 1).unwrap().excess, 1);
+    // No byte at all is a new log on both sides.
+    assert_eq!(recovered(&pair, 0, FRESH), RecoveredBy::At { state: FRESH, file: 0 });
 }
 
 #[test]

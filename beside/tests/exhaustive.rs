@@ -1,7 +1,7 @@
 //! Every small log, every id and every range of ids around it, on both sides.
 use std::ops::Bound;
 
-use beside::{layout, Departure, Entry, Ids, Pair, Tally};
+use beside::{layout, Departure, Entry, Ids, Pair, Tally, PAGE};
 
 /// Payloads for entries of one, two and three pages, two of each about the boundaries.
 const PAYLOADS: [[usize; 2]; 3] = [[8, 1_020], [1_021, 2_043], [2_044, 3_000]];
@@ -96,6 +96,24 @@ fn every_recovery_of_every_log_up_to_five_pages() {
         }
     });
     tally.print("every log up to five pages, recovered");
+}
+
+/// Each log is cut at the front of each of its pages, about it, at the end, and where the whole log ends.
+#[test]
+fn every_log_up_to_four_pages_cut() {
+    let mut tally = Tally::default();
+    every_log(&Pair::with_capacity(4), 4, &mut tally, &mut |pair, tally| {
+        pair.compare_cut(pair.state().length, tally);
+        for page in 0..pair.pages() {
+            for byte in [0, 1, 12, 1_023] {
+                pair.compare_cut(page * PAGE + byte, tally);
+            }
+        }
+    });
+    tally.print("every log up to four pages, cut");
+    // Each departure comes up, at the input that docs/DIFFERENCES.md gives as the smallest.
+    assert_eq!(tally.smallest(Departure::TornEntry), "1 (payload 1021); next 1; cut at 1024");
+    assert_eq!(tally.smallest(Departure::PartPage), "1 (payload 8); next 1; cut at 1");
 }
 
 /// Every list of up to three entries with payloads about the boundaries, cut into pushes in every way.

@@ -2,7 +2,7 @@
 //! there are and which.
 use std::ops::Bound;
 
-use beside::{chance::Chance, Departure, Entry, Ids, Pair, PushedBy, Tally, TOO_LARGE};
+use beside::{chance::Chance, Departure, Entry, Ids, Pair, PushedBy, Tally, PAGE, TOO_LARGE};
 
 fn setting(name: &str, usual: u64) -> u64 {
     std::env::var(name).map_or(usual, |text| text.parse().expect(name))
@@ -82,9 +82,20 @@ fn some_range(chance: &mut Chance, pair: &Pair) -> Ids {
     (end(), end())
 }
 
+/// A byte at which a log is cut: anywhere, about a page's end, or in an entry that was written last.
+fn some_cut(chance: &mut Chance, pair: &Pair) -> u64 {
+    let length = pair.state().length;
+    match chance.below(3) {
+        0 => chance.below(length + 1),
+        1 => (chance.below(pair.pages() + 1) * PAGE + chance.below(3)).saturating_sub(1).min(length),
+        _ => pair.held.last().map_or(0, |held| held.page * PAGE + chance.below(held.pages * PAGE + 1)),
+    }
+}
+
 #[test]
 fn random_logs() {
     let mut chance = Chance::new(setting("BESIDE_SEED", 1));
+    let mut cuts = Chance::new(!setting("BESIDE_SEED", 1));
     let mut tally = Tally::default();
     for number in 0..setting("BESIDE_LOGS", 600) {
         // The narrower of those apart never overflow the Rust's product, the widest nearly always do.
@@ -104,11 +115,15 @@ fn random_logs() {
         let excess = if pair.held.is_empty() { 0 } else { chance.below(1_024) as usize };
         let excess = chance.bytes(excess);
         pair.compare_recovery(&excess, &mut tally);
+        for _ in 0..6 {
+            let at = some_cut(&mut cuts, &pair);
+            pair.compare_cut(at, &mut tally);
+        }
         tally.compared("logs");
     }
     tally.print("random logs");
-    use Departure::{AbsentPosition, IdlePages, LaterPages, StaleFilling};
-    for departure in [LaterPages, IdlePages, AbsentPosition, StaleFilling] {
+    use Departure::{AbsentPosition, IdlePages, LaterPages, PartPage, StaleFilling, TornEntry};
+    for departure in [LaterPages, IdlePages, AbsentPosition, StaleFilling, TornEntry, PartPage] {
         assert!(tally.times(departure) > 0, "{departure:?} did not come up");
     }
 }
