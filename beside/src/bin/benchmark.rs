@@ -1,5 +1,5 @@
 //! Times the library and nebari's Rust on the same inputs, in one run: `scripts/benchmark` prints the table of
-//! docs/BENCHMARK.md, with --pushes the rows of the pushes alone. Build it with --release.
+//! docs/BENCHMARK.md; with --pushes or --recoveries it prints the rows of those alone. Build it with --release.
 //!
 //! Both sides work in memory: the Rust on a file that is a plain vector, reached through `&mut dyn File` as nebari
 //! reaches its files; ours through the safe functions of the host crate. The two take turns, and the least time of all
@@ -307,6 +307,61 @@ fn recoveries() {
         );
         row(&format!("recovery: {what}"), timed, "");
     }
+    torn_recovery();
+    for (what, pages) in [("1,000", 1_000), ("10,000", 10_000), ("100,000", 100_000)] {
+        cut_starts(what, pages);
+    }
+}
+
+/// The least time of so many runs of one side, in nanoseconds.
+fn least<T>(count: usize, mut run: impl FnMut() -> T) -> f64 {
+    let mut least = f64::MAX;
+    for _ in 0..TURNS {
+        let start = Instant::now();
+        for _ in 0..count {
+            black_box(run());
+        }
+        least = least.min(start.elapsed().as_nanos() as f64 / count as f64);
+    }
+    least
+}
+
+const ERROR: &str = "the Rust answers an error";
+
+fn fails_in_rust(bytes: &[u8]) -> bool {
+    let length = bytes.len() as u64;
+    probe::initialize(&mut MemoryFile::of(bytes.to_vec()), &state_probe::state(0, 0, 0), length).is_err()
+}
+
+/// A log that ends in an entry of 17 pages, of which the last is missing.
+fn torn_recovery() {
+    let Log { mut store, state, .. } = log_of(dense(10_000), SMALL, 10_001);
+    store.resize(store.len() + 17 * PAGE, 0);
+    let data = Chance::new(3).bytes(17_000);
+    let pushed = lent::push(&mut store, state, &[10_001], &[data.len() as u64], &data);
+    let cut = pushed.state.length - PAGE as u64;
+    assert_eq!(lent::recover(&store, cut), Ok(lent::Recovered { state, excess: 0, dropped: 16 }));
+    assert!(fails_in_rust(&store[..cut as usize]));
+    let ours = least(1_000, || lent::recover(black_box(&store), cut).is_ok());
+    println!("| recovery: 10,000 one-page entries and 16 pages of one of 17 | | {ours:.0} | | {ERROR} |");
+}
+
+/// Each page is a start whose entry has two: all are dropped, one after the other.
+fn cut_starts(what: &str, pages: usize) {
+    let mut store = vec![0; pages * PAGE];
+    for page in store.chunks_mut(PAGE) {
+        page[..4].copy_from_slice(&[1, 0, 4, 0]);
+    }
+    let (length, fresh) = (store.len() as u64, State::fresh());
+    assert_eq!(lent::recover(&store, length), Ok(lent::Recovered { state: fresh, excess: 0, dropped: pages as u64 }));
+    assert!(fails_in_rust(&store));
+    let count = 200_000 / pages;
+    let ours = least(count, || lent::recover(black_box(&store), length).is_ok()) / pages as f64;
+    let number = |page: &[u8]| u32::from_be_bytes([page[0], page[1], page[2], page[3]]);
+    let read = || black_box(&store).chunks(PAGE).rev().map(number).fold(0, u32::wrapping_add);
+    let plain = least(count, read) / pages as f64;
+    let note = format!("{ERROR}; to read the same bytes and no more: {plain:.1}");
+    println!("| recovery, a page: a tail of {what} cut starts | | {ours:.1} | | {note} |");
 }
 
 fn notes() {
@@ -336,13 +391,8 @@ fn notes() {
 /// The sound check has nothing beside it.
 fn checks() {
     let log = log_of(dense(10_000), SMALL, 10_001);
-    let mut least = f64::MAX;
-    for _ in 0..TURNS {
-        let start = Instant::now();
-        black_box(lent::check(black_box(&log.store), log.state.length).is_ok());
-        least = least.min(start.elapsed().as_nanos() as f64 / 10_000.0);
-    }
-    println!("| sound check, a page: 10,000 one-page entries | | {least:.0} | | the Rust has none |");
+    let ours = least(1, || lent::check(black_box(&log.store), log.state.length).is_ok()) / 10_000.0;
+    println!("| sound check, a page: 10,000 one-page entries | | {ours:.0} | | the Rust has none |");
 }
 
 fn machine() {
@@ -353,12 +403,14 @@ fn machine() {
 }
 
 fn main() {
-    let only_pushes = std::env::args().any(|word| word == "--pushes");
+    let only = std::env::args().nth(1);
     machine();
     println!("| what | the Rust, ns | ours, ns | times as fast | |");
     println!("|---|---|---|---|---|");
-    if only_pushes {
-        return all_pushes();
+    match only.as_deref() {
+        Some("--pushes") => return all_pushes(),
+        Some("--recoveries") => return recoveries(),
+        _ => {}
     }
     all_lookups();
     scans();
