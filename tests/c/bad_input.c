@@ -5,7 +5,7 @@
  * byte outside stops the program; what is left of the room on the other side holds a pattern that is compared.
  *
  * bad_input SEED CALLS: prints how often each function gave each answer, and fails on a wrong answer, on a
- * changed byte, and where some answer that the rules have did not come up at all.
+ * changed byte, and where some answer that the rules have, or some kind of torn log, did not come up at all.
  */
 #include "awirbesh.h"
 #include "model.h"
