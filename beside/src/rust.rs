@@ -2,7 +2,8 @@
 use std::{
     cell::Cell,
     panic::{self, AssertUnwindSafe},
-    sync::Once,
+    path::{Path, PathBuf},
+    sync::{Once, OnceLock},
 };
 
 use awirbesh::State;
@@ -117,9 +118,23 @@ fn number_of(error: &Error) -> u64 {
     }
 }
 
-/// The Rust's recovery of a file with these bytes, on the disk as it needs it.
+/// Where the Rust's recovery finds its files: in memory where there is a folder for that, since it waits for the disk
+/// each time that it cuts an excess off.
+fn folder() -> &'static Path {
+    static FOLDER: OnceLock<PathBuf> = OnceLock::new();
+    FOLDER.get_or_init(|| {
+        let memory = PathBuf::from("/dev/shm");
+        let tried = memory.join(format!("beside-{}", std::process::id()));
+        match std::fs::write(&tried, []).and_then(|()| std::fs::remove_file(&tried)) {
+            Ok(()) => memory,
+            Err(_) => std::env::temp_dir(),
+        }
+    })
+}
+
+/// The Rust's recovery of a file with these bytes, which it needs a path for.
 pub fn recover(bytes: &[u8]) -> RecoveredBy {
-    let path = std::env::temp_dir().join(format!("beside-{:?}-{}", std::thread::current().id(), std::process::id()));
+    let path = folder().join(format!("beside-{:?}-{}", std::thread::current().id(), std::process::id()));
     std::fs::write(&path, bytes).unwrap();
     let state = nebari::transaction::State::from_path(&path);
     let ran = caught(|| TransactionLog::<DiskFile>::initialize_state(&state, &Context::<DiskManager>::default()));
