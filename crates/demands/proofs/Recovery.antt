@@ -2,4 +2,5 @@ pub mod Cutting
 pub mod Resuming
 pub mod Reading
 pub mod Uncut
+pub mod Again
 pub mod Torn

@@ -13,11 +13,12 @@
 --   filling-written                           of its second page, over 255s: five-filled
 --   read-back                                 two ids are taken, and the second, 5, is pushed: five-reads-back, five-stays-read
 --   torn, cut-at-byte, uncut-same             4 and 5 are pushed and cut in 5; a log cut without a push; one that is not cut: both-torn, four-kept, cut-in-three, whole-uncut
+--   recovered-again, recovered-adds-up        of that cut: four-again
 --   settled, through cuts and after 9         then 3 is found as before: torn-goes-on, three-through-a-cut, three-after-nine
 --   recover-right, recover-alike              a length with an excess; logs that differ before their last whole entry: excess-recovers, recovers-alike, torn-alike
 --   complete-right, note-adds                 over words that are not zero: notes-right, three-added
 --   data-one-part                             the data of an entry of one page: five-bytes
-use Prim.Native.Nat.{ℕ, zero, suc, _+_, _-_, _≤_, _<_}
+use Prim.Native.Nat.{ℕ, zero, suc, _+_, _-_, _*_, _≤_, _<_}
 use mathlib.Core.Path.{_≡_, refl, ap}
 use mathlib.Core.Bool.{true}
 use mathlib.Core.Logic.{_⊎_, _↔_, inl, inr, ⊎-elim}
@@ -61,6 +62,7 @@ use Rattle.demands.proofs.Recovery.Cutting.{cut-at-byte}
 use Rattle.demands.proofs.Recovery.Resuming.{recover-right}
 use Rattle.demands.proofs.Recovery.Reading.{recover-alike, sound-apart}
 use Rattle.demands.proofs.Recovery.Uncut.{uncut-same}
+use Rattle.demands.proofs.Recovery.Again.{recovered-adds-up, recovered-again}
 use Rattle.demands.proofs.Recovery.Torn.{torn}
 use Rattle.demands.proofs.History.Lasting.{standingData}
 use Rattle.demands.proofs.Lookup.AnyGuess.{any-guess-right}
@@ -321,6 +323,10 @@ unfolding pagesFor bytesOf filled firstPage laterPage laterPages entryPages tooL
 torn-alike =
     recover-alike torn-store (entryPages 1 (6 ∷ []) ++ drop 1024 torn-store) 6620 4
     (record { small = lit≤ tt; inside = lit≤ tt }) (record { small = lit≤ tt; inside = lit≤ tt }) four-apart refl
+
+-- what is left of it recovers to the same, and all of it adds up
+pub four-again : (recoverOf torn-store 5120 ≡ recovered (stateOf 5120 4 5) 0 0) × (5120 + 1 * 1024 + 476 ≡ 6620)
+four-again = (recovered-again torn-store 6620 (stateOf 5120 4 5) 476 1 four-kept, recovered-adds-up torn-store 6620 (stateOf 5120 4 5) 476 1 four-kept)
 
 -- in a history: a longer store is lent, both are pushed, the log is cut there, 5 is handed out again
 abbrev torn-calls : List Call

@@ -1,40 +1,20 @@
 -- The bytes that a push leaves on an entry's pages depend on its id and data alone. Assumes nothing.
-use Prim.Native.Nat.{ℕ, zero, suc, _+_, _-_, _≤_, _<_}
+use Prim.Native.Nat.{ℕ, suc, _+_, _-_, _≤_, _<_}
 use mathlib.Core.Path.{_≡_, sym, _∙_}
-use mathlib.Core.Logic.{⊎-elim}
-use mathlib.Core.List.{List, [], _++_, append-assoc, append-nil}
+use mathlib.Core.List.{List, _++_, append-assoc}
 use native.Mathlib.Omega.{arith}
-use lib.ListN.{length, getD, take, drop, replicate, length-append, take-append-drop}
+use lib.ListN.{length, take, drop, replicate, length-append, take-append-drop}
 use lib.Seq.{take-at, drop-at, length-take-le}
-use Rattle.refusal.proofs.Cases.{side}
 use Rattle.page.specs.Data.{placeOf}
 use Rattle.page.specs.Write.{entryPages}
 use Rattle.page.proofs.Joining.{length-entry}
 use Rattle.page.proofs.Written.{filling-zeros}
-use Rattle.pushing.specs.Push.{entryData, bytesFor, Done, pushOf}
+use Rattle.pushing.specs.Push.{bytesFor, Done, pushOf}
 use Rattle.log.specs.declared.state.State.{State}
 use Rattle.demands.specs.Push.{batchPages, Push, idIn, dataIn, outcome, Counted, beginsAt, pagesOf, AlikeFrom}
 use Rattle.demands.proofs.Push.Ways.{by-batch}
 use Rattle.demands.proofs.Push.Batch.{push-grows}
-
--- ---- an entry's pages among those of the batch
-
-module _ (ids ends bytes : List ℕ) (j : ℕ) where
-  abbrev entry : List ℕ
-  entry = entryPages (getD ids j 0) (entryData ends bytes j)
-
-  -- the pages of n entries, of which it is one: those before it, its own, and the rest
-  record Among (n : ℕ) : Type 0 where
-    pub rest : List ℕ
-    pub is : batchPages ids ends bytes n ≡ batchPages ids ends bytes j ++ (entry ++ rest)
-
-  among : (n : ℕ) → j < n → Among n
-  unfolding batchPages
-  among zero l = absurd (omega arith)
-  among (suc n) l = ⊎-elim
-      (λ s. let a = among n s in record { rest = a .rest ++ entryPages (getD ids n 0) (entryData ends bytes n); is = rw (a .is, append-assoc, append-assoc) })
-      (λ s. let e : n ≡ j = omega arith in record { rest = []; is = rw (e, append-nil) })
-      (side j n)
+use Rattle.demands.proofs.Push.Places.{begins}
 
 -- ---- THEOREM: a counted entry's pages are those that its id and data give
 
@@ -49,12 +29,13 @@ module _ (store : List ℕ) (st : State) (ids ends bytes : List ℕ) where
   inside-if = by-batch store st ids ends bytes InsideIf (λ h. absurd (omega arith)) (λ h. absurd (omega arith)) (λ h. absurd (omega arith)) (λ l h. l)
 
 pub pages-written : (q : Push) (j : ℕ) → Counted q j → pagesOf q j ≡ entryPages (idIn q j) (dataIn q j)
+unfolding batchPages
 pages-written q j h =
     let left = outcome q in
     let log = take (q .state .length) (q .store) in
     let earlier = batchPages (q .ids) (q .ends) (q .bytes) j in
     let pages = entryPages (idIn q j) (dataIn q j) in
-    let a = among (q .ids) (q .ends) (q .bytes) j (left .answer .written) h in
+    let a = begins (q .ids) (q .ends) (q .bytes) (suc j) (left .answer .written) h in
     let tail = drop (left .answer .state .length) (left .store) in
     let size : length (log ++ earlier) ≡ beginsAt q j =
     length-append log earlier ∙ rw (length-take-le (q .state .length) (q .store) (inside-if (q .store) (q .state) (q .ids) (q .ends) (q .bytes) (omega arith))) in

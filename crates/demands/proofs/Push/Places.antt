@@ -1,5 +1,5 @@
 -- Where the entries of a batch lie in the log that the push leaves. Assumes nothing.
-use Prim.Native.Nat.{ℕ, zero, suc, _+_, _*_, _/_, _%_, _≤_, _<_}
+use Prim.Native.Nat.{ℕ, zero, suc, _+_, _*_, _%_, _≤_, _<_}
 use mathlib.Core.Path.{_≡_, refl, sym, ap, _∙_}
 use mathlib.Core.Logic.{⊎-elim}
 use mathlib.Core.List.{List, [], _++_, append-assoc, append-nil}
@@ -8,7 +8,6 @@ use lib.ListN.{length, getD, take, length-append}
 use lib.Seq.{take-at}
 use Rattle.refusal.proofs.Cases.{side, order}
 use Rattle.page.specs.Size.{pageSize, idSize, pagesForData, pageCount}
-use Rattle.page.specs.Mark.{markAt}
 use Rattle.page.specs.Entry.{lengthAt, idAt, afterAt}
 use Rattle.page.specs.Write.{entryPages}
 use Rattle.page.proofs.Counting.{pages-some}
@@ -18,7 +17,7 @@ use Rattle.log.specs.Recovery.{firstPages}
 use Rattle.pushing.specs.Push.{entryData}
 use Rattle.demands.proofs.Sound.{sound-length}
 use Rattle.demands.specs.Sound.{Start, Sound, SoundStore}
-use Rattle.demands.specs.Push.{batchPages, logAfter, Push, idIn, dataIn, outcome, Counted, beginsAt, endsAt, logWith, Holds, Ready, RightPush}
+use Rattle.demands.specs.Push.{batchPages, logAfter, Push, idIn, dataIn, outcome, Counted, beginsAt, logWith, Holds, Ready, RightPush}
 use Rattle.demands.specs.History.{Words}
 use Rattle.demands.proofs.Push.Appending.{holds-back}
 use Rattle.demands.proofs.Front.{Closed, sound-front}

@@ -1,7 +1,6 @@
 -- A sound log of which only the first pages are there: what is left of it is sound, and recovery gives that. Assumes nothing.
-use Prim.Native.Nat.{ℕ, zero, suc, _+_, _-_, _*_, _/_, _%_, _≤_, _<_}
+use Prim.Native.Nat.{ℕ, zero, suc, _+_, _-_, _*_, _/_, _≤_, _<_}
 use mathlib.Core.Path.{_≡_, refl, sym, ap, _∙_}
-use mathlib.Core.Bool.{false}
 use mathlib.Core.Logic.{inl, inr, ⊎-elim}
 use mathlib.Core.List.{List, _++_}
 use lib.ListN.{length, take, drop, length-append, take-append-drop}
@@ -10,11 +9,11 @@ use native.Mathlib.Omega.{arith}
 use Rattle.refusal.proofs.Cases.{side, order, same-or-not}
 use Rattle.page.specs.Size.{pageSize, pageCount}
 use Rattle.page.specs.Mark.{markAt}
-use Rattle.page.specs.Entry.{cut, whole, lengthAt, idAt, dataLengthAt, afterAt, entryAt}
+use Rattle.page.specs.Entry.{cut, whole, idAt, dataLengthAt, afterAt, entryAt}
 use Rattle.page.proofs.Starting.{whole-at, cut-at, after-start}
 use Rattle.log.specs.Bounds.{Fits}
-use Rattle.log.specs.State.{fresh, topId}
-use Rattle.log.specs.Recovery.{Recovering, recovered, refused, atWhole, firstPages, walkBack, excessOf, recoverLog, recoverOf}
+use Rattle.log.specs.State.{topId}
+use Rattle.log.specs.Recovery.{Recovering, atWhole, firstPages, walkBack, excessOf, recoverLog, recoverOf}
 use Rattle.log.proofs.Laws.Bounds.{not-too-long}
 use Rattle.log.proofs.Laws.Recovery.Steps.{whole-used, whole-goes-on, back-later, back-cut, back-whole, back-fresh, length-first, count-first, first-first, recover-cut}
 use Rattle.demands.specs.Sound.{Start, Sound, Last}

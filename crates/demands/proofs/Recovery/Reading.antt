@@ -3,13 +3,13 @@ use Prim.Native.Nat.{ℕ, zero, suc, _-_, _*_, _/_, _%_, _≤_, _<_}
 use mathlib.Core.Path.{_≡_, refl, sym, ap, _∙_}
 use mathlib.Core.Logic.{⊎-elim}
 use mathlib.Core.List.{List}
-use lib.ListN.{length, take, drop}
+use lib.ListN.{length, drop}
 use native.Mathlib.Omega.{arith}
 use Rattle.refusal.proofs.Cases.{order}
 use Rattle.page.specs.Size.{pageSize, pagesFor, pageCount, pageAt}
 use Rattle.page.specs.Mark.{markAt}
-use Rattle.page.specs.Entry.{Starting, short, cut, whole, lengthAt, afterAt, entryAt}
-use Rattle.page.proofs.Marking.{IsBad, mark-cases}
+use Rattle.page.specs.Entry.{Starting, short, cut, whole, afterAt, entryAt}
+use Rattle.page.proofs.Marking.{mark-cases}
 use Rattle.page.proofs.Paging.{page-from}
 use Rattle.page.proofs.Reading.{mark-same, entry-same}
 use Rattle.page.proofs.Starting.{is-cut}

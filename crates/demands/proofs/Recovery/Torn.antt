@@ -4,25 +4,25 @@ use mathlib.Core.Path.{_≡_, refl, sym, ap, _∙_}
 use mathlib.Core.Logic.{_⊎_, _↔_, inl, inr, ⊎-elim}
 use mathlib.Core.List.{List, _++_, append-nil}
 use native.Mathlib.Omega.{arith}
-use lib.ListN.{length, take, drop, take-append-drop}
+use lib.ListN.{length, take}
 use lib.Seq.{take-take, take-append-le, length-take-le}
 use Rattle.refusal.proofs.Cases.{side}
 use Rattle.page.specs.Size.{pageSize, pageCount}
-use Rattle.page.specs.Entry.{idAt, afterAt}
+use Rattle.page.specs.Entry.{idAt}
 use Rattle.page.proofs.Growing.{id-kept}
 use Rattle.page.proofs.Starting.{after-start}
 use Rattle.log.specs.Bounds.{Fits}
-use Rattle.log.specs.State.{fresh, topId}
-use Rattle.log.specs.Recovery.{Recovering, recovered, refused, atWhole, firstPages, excessOf, recoverOf}
+use Rattle.log.specs.State.{fresh}
+use Rattle.log.specs.Recovery.{Recovering, recovered, atWhole, firstPages, excessOf, recoverOf}
 use Rattle.log.proofs.Laws.Recovery.Steps.{whole-used, whole-goes-on}
-use Rattle.demands.specs.Sound.{Start, Sound, SoundStore, Last, LastStored, nothing-stored, last-entry}
-use Rattle.demands.specs.Push.{batchPages, logAfter, Push, idIn, outcome, Counted, beginsAt, endsAt, logWith, lastOf, Ready}
-use Rattle.demands.specs.Recovery.{RightRecovery, empty, used-up, goes-on, Left, RightCut, Torn}
+use Rattle.demands.specs.Sound.{Start, Sound, SoundStore, LastStored, nothing-stored, last-entry}
+use Rattle.demands.specs.Push.{batchPages, logAfter, Push, outcome, Counted, beginsAt, endsAt, logWith, lastOf, Ready}
+use Rattle.demands.specs.Recovery.{RightRecovery, empty, used-up, goes-on, RightCut, Torn}
 use Rattle.demands.specs.History.{Words}
 use Rattle.demands.proofs.Sound.{sound-length}
 use Rattle.demands.proofs.Last.{last-stored-unique, last-stored-ready}
 use Rattle.demands.proofs.Push.Appending.{start-kept, start-back}
-use Rattle.demands.proofs.Push.Places.{is-good, sound-after, begins-with, is-with-all, length-with, first-with, with-whole, closed-with, pageOf, pages-rise, entry-start, entry-after, entry-id, sound-with}
+use Rattle.demands.proofs.Push.Places.{is-good, sound-after, begins-with, is-with-all, length-with, first-with, with-whole, closed-with, pageOf, pages-rise, entry-start, entry-after, entry-id}
 use Rattle.demands.proofs.Recovery.Cutting.{cut-at-byte}
 
 -- ---- a right recovery, by the id of the last entry stored
