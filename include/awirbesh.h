@@ -34,9 +34,11 @@
  *    4 no room          after the length the store has fewer bytes than the entry's pages take
  *    5 bad mark         a mark other than 0 and 1 was read
  *    6 short entry      a start with a payload length under 8
- *    7 cut entry        an entry's pages go beyond the log's whole pages; in awirbesh_check also an excess
+ *    7 cut entry        an entry's pages go beyond the log's whole pages (awirbesh_recover drops it); in
+ *                       awirbesh_check also an excess
  *    8 no entries       page 0 was read and has mark 0 (awirbesh_check and awirbesh_recover only)
- *    9 ids used up      recovery found id 2^64-1, or an id was asked for when next is 2^64-1
+ *    9 ids used up      the last whole entry that recovery found has id 2^64-1, or an id was asked for when next is
+ *                       2^64-1
  *   10 buffer small     the data is longer than `out`
  *   11 below start      an id noted below the sequence's start
  *   12 outside window   an id noted 4,096 or more above it, or 2^64-1

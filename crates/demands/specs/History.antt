@@ -12,7 +12,7 @@ use Rattle.log.specs.Bounds.{tooLong}
 use Rattle.log.specs.Output.{WithOutput}
 use Rattle.log.specs.State.{stateOf, topId, Taking, taken, refused as untaken, takeOf}
 use Rattle.pushing.specs.Push.{Done, pushOf}
-use Rattle.log.specs.Recovery.{Recovering, recovered, refused as unrecovered, cutLog, recoverOf}
+use Rattle.log.specs.Recovery.{Recovering, recovered, refused as unrecovered, recoverOf}
 use Rattle.log.specs.Lookup.{Looking, findOf, lookupOf}
 use Rattle.scanning.specs.Scan.{Beginning, scanOf}
 use Rattle.scanning.specs.Step.{Stepping, stepOf}
@@ -133,13 +133,13 @@ said w (c ∷ cs) = record { call = c; reply = answer w c } ∷ said (step w c) 
 
 -- ---- where a history begins
 
--- a sound log and the state that its recovery gives: a store of which so many bytes are a sound log and an excess
+-- 11 "from the state that recovery gives on, if the log that is left is sound": of so many bytes of the store
 pub record Begun (w : World) : Type 0 where
   pub size : ℕ
-  pub sound : Sound (cutLog (w .store) size)
   pub excess : ℕ
   pub dropped : ℕ
   pub is : recoverOf (w .store) size ≡ recovered (w .state) excess dropped
+  pub sound : Sound (logOf w)
 
 -- ---- cuts that spare the first bytes of the log
 

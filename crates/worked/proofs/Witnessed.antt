@@ -14,6 +14,7 @@
 --   read-back                                 two ids are taken, and the second, 5, is pushed: five-reads-back, five-stays-read
 --   torn, cut-at-byte, uncut-same             4 and 5 are pushed and cut in 5; a log cut without a push; one that is not cut: both-torn, four-kept, cut-in-three, whole-uncut
 --   recovered-again, recovered-adds-up        of that cut: four-again
+--   begun-lives                               of what is left of a torn log: torn-begins
 --   settled, through cuts and after 9         then 3 is found as before: torn-goes-on, three-through-a-cut, three-after-nine
 --   recover-right, recover-alike              a length with an excess; logs that differ before their last whole entry: excess-recovers, recovers-alike, torn-alike
 --   complete-right, note-adds                 over words that are not zero: notes-right, three-added
@@ -107,7 +108,7 @@ begins = world store (stateOf 4096 3 4)
 
 pub begins-there : Begun begins
 unfolding pagesFor pageAt numberAt bytesOf markAt lengthAt idAt entryAt filled firstPage laterPage laterPages entryPages tooLong atWhole atStart walkBack recoverLog recoverOf
-begins-there = record { size = 4096; sound = store-is-sound .sound; excess = 0; dropped = 0; is = refl }
+begins-there = record { size = 4096; excess = 0; dropped = 0; is = refl; sound = store-is-sound .sound }
 
 starts-there : (p : ℕ) → Start (logOf begins) p → (p ≡ 0) ⊎ (p ≡ 2)
 unfolding pagesFor pageAt bytesOf markAt filled firstPage laterPage laterPages entryPages
@@ -327,6 +328,11 @@ torn-alike =
 -- what is left of it recovers to the same, and all of it adds up
 pub four-again : (recoverOf torn-store 5120 ≡ recovered (stateOf 5120 4 5) 0 0) × (5120 + 1 * 1024 + 476 ≡ 6620)
 four-again = (recovered-again torn-store 6620 (stateOf 5120 4 5) 476 1 four-kept, recovered-adds-up torn-store 6620 (stateOf 5120 4 5) 476 1 four-kept)
+
+-- and a history may begin with it
+pub torn-begins : Begun (world torn-store (stateOf 5120 4 5))
+unfolding pagesFor pageAt numberAt bytesOf markAt lengthAt idAt entryAt filled firstPage laterPage laterPages entryPages tooLong badState entryData some badEnd badBatch largeData someLarge wrote turn entriesFrom pushOf laterMarks checkStart checkPage checkEnd checkFrom checkOf
+torn-begins = record { size = 6620; excess = 476; dropped = 1; is = four-kept; sound = checked-sound torn-store 5120 .0 refl .sound }
 
 -- in a history: a longer store is lent, both are pushed, the log is cut there, 5 is handed out again
 abbrev torn-calls : List Call

@@ -7,12 +7,11 @@ use native.Mathlib.Omega.{arith}
 use lib.ListN.{length, getD, take}
 use Rattle.page.specs.Size.{pageSize}
 use Rattle.page.specs.Entry.{dataLengthAt}
-use Rattle.log.specs.Bounds.{Fits}
+use Rattle.log.specs.Bounds.{Fits, Good}
 use Rattle.pushing.specs.Push.{entryData}
 use Rattle.log.specs.State.{topId}
-use Rattle.log.specs.Recovery.{refused, excessOf, cutLog, recoverOf}
+use Rattle.log.specs.Recovery.{refused, recoverOf}
 use Rattle.log.specs.Lookup.{findOf}
-use Rattle.log.proofs.Laws.Bounds.{length-log}
 use Rattle.demands.specs.Sound.{Sound, LastStored, nothing-stored, last-entry}
 use Rattle.demands.specs.Push.{outcome, Counted, endsAt, logWith, Holds}
 use Rattle.demands.specs.Recovery.{Torn}
@@ -23,7 +22,8 @@ use Rattle.demands.proofs.Sound.{sound-length}
 use Rattle.demands.proofs.Last.{last-stored-greatest, last-stored-rises, last-stored-ready}
 use Rattle.demands.proofs.Push.Appending.{holds-kept}
 use Rattle.demands.proofs.Push.Places.{length-with, begins-with, sound-with, held-with}
-use Rattle.demands.proofs.Recovery.Resuming.{Resumed, recovered-fits, recovered-resumes}
+use Rattle.demands.proofs.Recovery.Resuming.{uncut, Resumed, recovered-resumes}
+use Rattle.demands.proofs.Recovery.Again.{recovered-good, recovered-again}
 use Rattle.demands.proofs.Recovery.Torn.{torn}
 use Rattle.demands.proofs.History.Lasting.{right-grows, standingData, data-grows, right-exact, right-answers}
 use Rattle.demands.proofs.History.Living.{Grows, Lives, Over}
@@ -33,24 +33,18 @@ use Rattle.demands.proofs.History.Moving.{Moved, lives-step, lives-run,
 -- ---- where a history begins
 
 module _ (w : World) (b : Begun w) where
-  abbrev begun-log : List ℕ
-  begun-log = cutLog (w .store) (b .size)
+  good : Good (w .store) (w .state .length)
+  good = recovered-good (w .store) (b .size) (w .state) (b .excess) (b .dropped) (b .is)
 
-  fits : Fits (w .store) (b .size)
-  fits = recovered-fits (w .store) (b .size) (w .state) (b .excess) (b .dropped) (b .is)
-
-  resumed : Resumed begun-log (w .state)
-  resumed = recovered-resumes (w .store) (b .size) (w .state) (b .excess) (b .dropped) (b .sound) (b .is)
-
-  -- the recovered length is the log's
-  pub same-length : w .state .length ≡ b .size - excessOf (b .size)
-  same-length = resumed .size ∙ length-log (w .store) (b .size - excessOf (b .size)) (omega (arith, fits .inside))
+  -- recovery of the log that is left gives the same state
+  resumed : Resumed (logOf w) (w .state)
+  resumed =
+      let n = w .state .length in
+      let e = uncut (w .store) n (good .whole) in
+      rw e at (recovered-resumes (w .store) n (w .state) 0 0 (rw e (b .sound)) (recovered-again (w .store) (b .size) (w .state) (b .excess) (b .dropped) (b .is)))
 
   pub begun-lives : Lives w
-  begun-lives = record {
-    good = rw same-length (record { fits = record { small = fits .small; inside = omega (arith, fits .inside) }; sound = b .sound });
-    last = rw same-length (resumed .last);
-  }
+  begun-lives = record { good = record { fits = good .fits; sound = b .sound }; last = resumed .last }
 
   -- every id from 1 to last written is settled where a history begins: the demand is about something
   pub begun-settled : (id : ℕ) → 1 ≤ id → id ≤ w .state .last → Settled w id

@@ -11,7 +11,7 @@ use Rattle.page.specs.Size.{pageSize, pageCount}
 use Rattle.page.specs.Mark.{markAt}
 use Rattle.page.specs.Entry.{Starting, short, cut, whole, entryAt}
 use Rattle.page.proofs.Marking.{mark-cases}
-use Rattle.log.specs.Bounds.{Fits}
+use Rattle.log.specs.Bounds.{Fits, Good}
 use Rattle.log.specs.State.{fresh, recoveredAt, topId}
 use Rattle.log.specs.Recovery.{recovered, refused, atWhole, firstPages, walkBack, excessOf, cutLog, recoverLog, recoverOf}
 use Rattle.log.specs.declared.state.State.{State}
@@ -131,12 +131,16 @@ module _ (store : List ℕ) (n : ℕ) (st : State) (excess dropped : ℕ) (e : r
 
   -- ---- THEOREM: recovery of what is left
 
+  -- no call refuses its state
+  pub recovered-good : Good store (st .length)
+  recovered-good = record { fits = record { small = f .small; inside = omega (arith, f .inside, s .size, s .inside, size) }; whole = omega (arith, s .size) }
+
   pub recovered-again : recoverOf store (st .length) ≡ recovered st 0 0
   recovered-again =
+      let g = recovered-good in
       let inside : st .length ≤ w = omega (arith, s .size, s .inside, size) in
-      let fits : Fits store (st .length) = record { small = f .small; inside = omega (arith, f .inside) } in
-      let there = length-log store (st .length) (omega (arith, f .inside)) in
-      let none : excessOf (st .length) ≡ 0 = omega (arith, s .size) in
+      let there = length-log store (st .length) (g .fits .inside) in
+      let none : excessOf (st .length) ≡ 0 = g .whole in
       let front : take (st .length) store ≡ firstPages log (s .left) = rw (← s .size) (sym (take-take (st .length) w store inside)) in
-      sym (recover-cut store (st .length) (not-too-long store (st .length) fits) (st .length) (sym there) (omega arith))
+      sym (recover-cut store (st .length) (not-too-long store (st .length) (g .fits)) (st .length) (sym there) (omega (arith, g .whole)))
       ∙ (rw (none, front) (s .again))
