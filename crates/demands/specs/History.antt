@@ -52,7 +52,7 @@ pub data Call : Type 0 where
   step-on : (range : Range) (cursor : ℕ) (out : List ℕ) → Call
   recover : Call
   lend : (rest : List ℕ) → Call
-  cut : (n : ℕ) (rest : List ℕ) → Call
+  cut-log : (n : ℕ) (rest : List ℕ) → Call
 
 -- what a call answers, and what it leaves in what it is lent, by the definitions that the functions' contracts cite
 pub data Answer : Type 0 where
@@ -83,7 +83,7 @@ answer w (scan range) = scan-began (scanOf (w .store) (w .state) range)
 answer w (step-on range cursor out) = stepped (stepOf (w .store) (w .state) range cursor out)
 answer w recover = restored (recoverOf (w .store) (w .state .length))
 answer w (lend rest) = lent (anotherStore w rest)
-answer w (cut n rest) = reopened (keptOf w n ++ rest) (recoverOf (keptOf w n ++ rest) (length (keptOf w n)))
+answer w (cut-log n rest) = reopened (keptOf w n ++ rest) (recoverOf (keptOf w n ++ rest) (length (keptOf w n)))
 
 -- the state after an id was asked for: 3.2 "a refusal leaves the state"
 abbrev pub stateAfterTake : State → Taking → State
@@ -153,7 +153,7 @@ Spares bytes (scan range) = Unit {0}
 Spares bytes (step-on range cursor out) = Unit {0}
 Spares bytes recover = Unit {0}
 Spares bytes (lend rest) = Unit {0}
-Spares bytes (cut n rest) = bytes ≤ n
+Spares bytes (cut-log n rest) = bytes ≤ n
 
 -- and so does every cut of a sequence
 abbrev pub AllSpare : ℕ → List Call → Type 0
@@ -199,7 +199,7 @@ Gives (scan range) r id s d = Unit {0}
 Gives (step-on range cursor out) r id s d = Unit {0}
 Gives recover r id s d = Unit {0}
 Gives (lend rest) r id s d = Unit {0}
-Gives (cut n rest) r id s d = Unit {0}
+Gives (cut-log n rest) r id s d = Unit {0}
 
 -- and so does every call that is made now
 abbrev pub Answers : World → ℕ → Standing → List ℕ → Type 0

@@ -15,7 +15,8 @@ use Rattle.log.specs.Recovery.{Recovering, recovered, refused, atWhole, firstPa
 use Rattle.demands.specs.Sound.{Start, Sound, Last, LastStored}
 use Rattle.demands.specs.Push.{Push, outcome, Counted, endsAt, logWith, lastOf}
 
--- 11.4 "the log's length, its last stored id and one more, with the excess; 9 exactly if that id is 2^64-1, the fresh state exactly if no page is left": of a log, after so many pages were dropped
+-- 11.4 "the log's length, its last stored id and one more, with the excess; 9 exactly if that id is 2^64-1, the fresh state exactly if no page is left":
+-- of a log, after so many pages were dropped
 pub data RightRecovery (log : List ℕ) (excess dropped : ℕ) : Recovering → Type 0 where
   empty : length log ≡ 0 → RightRecovery log excess dropped (recovered fresh excess dropped)
   used-up : (p : ℕ) → Last log p → idAt log p ≡ topId → RightRecovery log excess dropped (refused 9 0)
@@ -65,16 +66,19 @@ pub record Apart (log : List ℕ) (p : ℕ) : Type 0 where
   pub before : (q : ℕ) → Start log q → p < q → afterAt log p ≤ q
   pub within : afterAt log p ≤ pageCount log
 
--- ---- recovery that refuses a cut entry with 7 and drops nothing
+-- ---- a recovery that drops nothing: 7 at a cut entry, and all else as rules 6 has it
 
+-- at the start on page s of a log of n bytes
 unfoldable pub strictAt : ℕ → ℕ → ℕ → Starting → Recovering
 strictAt n excess s short = refused 6 s
 strictAt n excess s (cut id) = refused 7 s
 strictAt n excess s (whole id len after) = atWhole n id excess 0
 
+-- from the page before p on
 unfoldable pub strictBack : ℕ → List ℕ → ℕ → Recovering
 strictBack excess log zero = pick (eqb (pageCount log) 0) (recovered fresh excess 0) (refused 8 0)
 strictBack excess log (suc p) = byMark (markAt log p) (strictAt (length log) excess p (entryAt log p)) (strictBack excess log p) (refused 5 p)
 
+-- of so many bytes of a store
 unfoldable pub strictOf : List ℕ → ℕ → Recovering
 strictOf store n = pick (tooLong store n) (refused 1 0) (strictBack (excessOf n) (cutLog store n) (pageCount (cutLog store n)))

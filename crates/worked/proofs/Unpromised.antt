@@ -19,7 +19,7 @@ use Rattle.log.specs.Lookup.{absent, compared, sayingAt, turned, walk, search, 
 use Rattle.pushing.specs.Push.{entryData, some, badEnd, badBatch, largeData, someLarge, wrote, turn, entriesFrom, pushOf}
 use Rattle.demands.specs.Sound.{SoundStore}
 use Rattle.demands.specs.Push.{batchPages, Push, pagesOf}
-use Rattle.demands.specs.History.{World, world, logOf, take-id, recover, lend, cut, handed-out, anotherStore, answer, step, run, Settled, SettledByStored}
+use Rattle.demands.specs.History.{World, world, logOf, take-id, recover, lend, cut-log, handed-out, anotherStore, answer, step, run, Settled, SettledByStored}
 use Rattle.demands.proofs.Last.{last-stored-greatest}
 use Rattle.demands.proofs.Check.Passing.{checked-sound}
 use Rattle.demands.proofs.History.Demands.{last-is-stored}
@@ -58,7 +58,7 @@ unfolding pagesFor pageAt numberAt bytesOf markAt lengthAt idAt entryAt filled f
 refused-comes-again = refl
 
 -- one of an entry that a cut took away
-pub cut-comes-again : answer (run begins (lend (replicate 3072 0) ∷ pushes-both ∷ cut 6620 (1 ∷ []) ∷ [])) take-id ≡ handed-out (taken 5 (stateOf 5120 4 6))
+pub cut-comes-again : answer (run begins (lend (replicate 3072 0) ∷ pushes-both ∷ cut-log 6620 (1 ∷ []) ∷ [])) take-id ≡ handed-out (taken 5 (stateOf 5120 4 6))
 unfolding pagesFor pageAt numberAt bytesOf markAt lengthAt idAt entryAt filled firstPage laterPage laterPages entryPages tooLong badState takeOf atWhole atStart walkBack recoverLog recoverOf entryData some badEnd badBatch largeData someLarge wrote turn entriesFrom pushOf anotherStore answer step run
 cut-comes-again = refl
 
@@ -110,7 +110,7 @@ overlapped-differs = (refl, refl)
 -- ---- 11.9 and 11.10 ask that no cut falls below: 3, settled and found, is lost by a cut in its last page, and 5 by one in its own, though both are below next again
 
 abbrev cut-three : World
-cut-three = run begins (cut 4000 [] ∷ take-id ∷ take-id ∷ [])
+cut-three = run begins (cut-log 4000 [] ∷ take-id ∷ take-id ∷ [])
 
 pub three-was-settled : Settled begins 3
 three-was-settled = record { some = lit≤ tt; most = lit≤ tt; below = lit< tt }
@@ -120,7 +120,7 @@ unfolding pagesFor pageAt numberAt bytesOf markAt lengthAt idAt entryAt filled f
 three-is-lost = (refl, refl)
 
 abbrev cut-five : World
-cut-five = run pushed-five (cut 5000 [] ∷ take-id ∷ take-id ∷ [])
+cut-five = run pushed-five (cut-log 5000 [] ∷ take-id ∷ take-id ∷ [])
 
 pub five-is-lost : (cut-five .state ≡ stateOf 4096 3 6) × (findOf (cut-five .store) (cut-five .state) 5 ≡ absent 4096)
 unfolding pagesFor pageAt numberAt bytesOf markAt lengthAt idAt entryAt filled firstPage laterPage laterPages entryPages tooLong badState takeOf leastFrom leastShift offsetOf compared sayingAt turned walk search searchOf findOf entryData some badEnd badBatch largeData someLarge wrote turn entriesFrom pushOf atWhole atStart walkBack recoverLog recoverOf answer step run

@@ -52,7 +52,7 @@ use Rattle.scanning.specs.Step.{stepStart, stepPage, forward, forwardFrom, step
 use Rattle.log.specs.declared.state.State.{State}
 use Rattle.scanning.specs.declared.Range.{Range}
 use Rattle.scanning.specs.declared.End.the-variants.{Open}
-use Rattle.demands.specs.History.{World, world, logOf, Words, Call, push, take-id, find, lookup, lend, cut, anotherStore, answer, step, run, said, AllSpare, Begun, Settled, SettledByStored, LooksUp, Gives, Answers, KeepsFull, ReadsBack}
+use Rattle.demands.specs.History.{World, world, logOf, Words, Call, push, take-id, find, lookup, lend, cut-log, anotherStore, answer, step, run, said, AllSpare, Begun, Settled, SettledByStored, LooksUp, Gives, Answers, KeepsFull, ReadsBack}
 use Rattle.page.proofs.Runs.{data-one-part}
 use Rattle.demands.proofs.Check.Passing.{checked-sound}
 use Rattle.demands.proofs.Push.Batch.{push-right, push-last-stored, push-whole}
@@ -336,7 +336,7 @@ torn-begins = record { size = 6620; excess = 476; dropped = 1; is = four-kept; s
 
 -- in a history: a longer store is lent, both are pushed, the log is cut there, 5 is handed out again
 abbrev torn-calls : List Call
-torn-calls = lend (replicate 3072 0) ∷ pushes-both ∷ cut 6620 (1 ∷ []) ∷ take-id ∷ []
+torn-calls = lend (replicate 3072 0) ∷ pushes-both ∷ cut-log 6620 (1 ∷ []) ∷ take-id ∷ []
 
 pub torn-goes-on : (run begins torn-calls .state ≡ stateOf 5120 4 6) × AllSpare 4096 torn-calls
 unfolding pagesFor pageAt numberAt bytesOf markAt lengthAt idAt entryAt filled firstPage laterPage laterPages entryPages tooLong badState takeOf entryData some badEnd badBatch largeData someLarge wrote turn entriesFrom pushOf atWhole atStart walkBack recoverLog recoverOf anotherStore answer step run

@@ -18,7 +18,7 @@ use Rattle.log.proofs.Laws.Bounds.{fitting}
 use Rattle.log.proofs.Laws.Recovery.Steps.{length-first, recover-bad}
 use Rattle.demands.specs.Sound.{Start, Sound, LastStored, last-entry}
 use Rattle.demands.specs.Recovery.{RightRecovery, empty, used-up, goes-on, Left, RightCut}
-use Rattle.demands.specs.History.{World, world, logOf, cut, keptOf, answer, afterCut, step}
+use Rattle.demands.specs.History.{World, world, logOf, cut-log, keptOf, answer, afterCut, step}
 use Rattle.demands.proofs.Push.Appending.{start-back}
 use Rattle.demands.proofs.Recovery.Cutting.{cut-right}
 use Rattle.demands.proofs.Recovery.Resuming.{by-recovery}
@@ -121,7 +121,7 @@ module _ (base : List ℕ) (sound : Sound base) (w : World) (o : Over base w) (n
         go r f (goes-on p l u) = absurd (let z : _≡_ {A = ℕ} 0 1 = cc in omega arith)
 
   -- THE LAW: a cut at or above the front leaves a world over it
-  pub cut-leaves : CutLeaves base w (step w (cut n rest))
+  pub cut-leaves : CutLeaves base w (step w (cut-log n rest))
   unfolding step answer
   cut-leaves = ⊎-elim
       (λ t. rw (← recover-bad store (length kept) t) not-gone-on)

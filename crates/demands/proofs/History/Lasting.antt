@@ -17,7 +17,7 @@ use Rattle.log.specs.Lookup.{Looking, found, absent, refused, findOf, lookupOf}
 use Rattle.log.proofs.Laws.Lookup.Handing.{found-copied, absent-nothing}
 use Rattle.demands.specs.Sound.{Start, Sound, Stored, Missing}
 use Rattle.demands.specs.Lookup.{Standing, present, missing, unsaid, standing, RightStanding}
-use Rattle.demands.specs.History.{World, logOf, push, take-id, find, lookup, scan, step-on, recover, lend, cut, answer, ExactlyStored, LooksUp, Answers}
+use Rattle.demands.specs.History.{World, logOf, push, take-id, find, lookup, scan, step-on, recover, lend, cut-log, answer, ExactlyStored, LooksUp, Answers}
 use Rattle.demands.proofs.Push.Appending.{start-kept, start-back}
 
 module _ (log x : List ℕ) (t : Sound (log ++ x)) (id q : ℕ) (h : Start log q) (most : id ≤ idAt log q) where
@@ -120,4 +120,4 @@ right-answers w id r e f (scan range) = tt
 right-answers w id r e f (step-on range cursor out) = tt
 right-answers w id r e f recover = tt
 right-answers w id r e f (lend rest) = tt
-right-answers w id r e f (cut n rest) = tt
+right-answers w id r e f (cut-log n rest) = tt

@@ -18,7 +18,8 @@ use Rattle.log.proofs.Laws.Bounds.{fitting}
 use Rattle.demands.specs.Sound.{Sound}
 use Rattle.demands.specs.Push.{batchPages}
 use Rattle.demands.specs.Recovery.{RightRecovery}
-use Rattle.demands.specs.History.{World, world, logOf, Words, Call, push, take-id, find, lookup, scan, step-on, recover, lend, cut, anotherStore, answer, stateAfterTake, stateAfterRecovery, step, run, Spares, AllSpare, Settled}
+use Rattle.demands.specs.History.{World, world, logOf, Words, Call, push, take-id, find, lookup, scan, step-on, recover, lend, cut-log}
+use Rattle.demands.specs.History.{anotherStore, answer, stateAfterTake, stateAfterRecovery, step, run, Spares, AllSpare, Settled}
 use Rattle.demands.proofs.Sound.{sound-good, sound-length}
 use Rattle.demands.proofs.Last.{last-stored-unique, last-stored-rises, last-stored-ready}
 use Rattle.demands.proofs.Push.Batch.{push-grows, push-right, push-last-stored}
@@ -47,7 +48,7 @@ moved-then m n = record { over = over-then (m .over) n; settled = λ id h. n .se
 pub record IsCut (c : Call) : Type 0 where
   pub bytes : ℕ
   pub rest : List ℕ
-  pub is : c ≡ cut bytes rest
+  pub is : c ≡ cut-log bytes rest
 
 -- next alone moved
 restated : (w : World) (st : State) → Lives w → st .length ≡ w .state .length → st .last ≡ w .state .last
@@ -120,7 +121,7 @@ module _ (w : World) (i : Lives w) where
   moved (step-on range cursor out) = inl (moved-none w i)
   moved recover = inl (moved-recovery (excessOf (w .state .length)) _ recovery-right)
   moved (lend rest) = inl (moved-lent rest)
-  moved (cut n rest) = inr (record { bytes = n; rest = rest; is = refl })
+  moved (cut-log n rest) = inr (record { bytes = n; rest = rest; is = refl })
 
 -- ---- any call, as long as no cut falls into what stands below
 
