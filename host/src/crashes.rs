@@ -76,7 +76,10 @@ struct Told {
 fn tell(disk: &Simulated, mut settled: Vec<Entry>) -> Told {
     for session in STORY {
         let mut log = match open(disk) {
-            Err(Error::Io(_)) => return Told { settled, attempted: Vec::new() },
+            Err(Error::Io(error)) => {
+                assert_eq!(error.to_string(), disk.first_error());
+                return Told { settled, attempted: Vec::new() };
+            }
             opened => opened.unwrap(),
         };
         assert_eq!(entries_of(&log), settled);
@@ -97,7 +100,8 @@ fn tell(disk: &Simulated, mut settled: Vec<Entry>) -> Told {
                     assert_eq!((refused.refusal, refused.written), (Refusal::OutOfOrder, batch.len()));
                     settled.extend(batch);
                 }
-                Err(Error::Io(_)) => {
+                Err(Error::Io(error)) => {
+                    assert_eq!(error.to_string(), disk.first_error());
                     assert_eq!(log.log().state(), before);
                     assert_eq!(entries_of(&log), settled);
                     assert!(batch.iter().all(|entry| log.log().get(entry.id) == Ok(None)));
@@ -115,9 +119,9 @@ fn tell(disk: &Simulated, mut settled: Vec<Entry>) -> Told {
     Told { settled, attempted: Vec::new() }
 }
 
-/// A disk on which something stopped in the middle, opened again: the log has what was settled, and the first entries of
-/// what was attempted that are whole. What it answers stays, and it goes on.
-fn go_on(disk: &Simulated, told: &Told) {
+/// A disk on which something stopped in the middle, opened again: the log is sound and has what was settled, and the
+/// first entries of what was attempted that are whole.
+fn open_again(disk: &Simulated, told: &Told) -> (LogFile, Vec<Entry>) {
     let given = disk.bytes().len();
     let mut whole = Vec::new();
     let mut length = 0;
@@ -130,12 +134,18 @@ fn go_on(disk: &Simulated, told: &Told) {
     }
     assert!(whole.starts_with(&told.settled));
 
-    let mut log = open(disk).unwrap();
+    let log = open(disk).unwrap();
     assert_eq!(entries_of(&log), whole);
     let beyond = (given - length) as u64;
     assert_eq!(log.cut_off(), CutOff { excess: beyond % 1_024, dropped: beyond / 1_024 });
     assert_eq!(log.cut_off().bytes(), beyond);
     assert_eq!(disk.bytes(), log.log().bytes());
+    (log, whole)
+}
+
+/// The same, and what the log answers stays, and it goes on.
+fn go_on(disk: &Simulated, told: &Told) {
+    let (mut log, mut whole) = open_again(disk, told);
     assert_eq!(disk.restart(0).bytes(), log.log().bytes()); // what it answers, a power failure does not take away
 
     whole.push(entry(log.take().unwrap(), 2));
@@ -172,26 +182,105 @@ fn a_file_cut_at_every_byte_opens() {
     }
 }
 
+/// Tells the story with faults, the first of which comes after any number of its steps.
+fn after_any_step(
+    beginning: &Simulated,
+    entries: &[Entry],
+    afters: impl Iterator<Item = usize>,
+    faults: impl Fn(usize) -> Vec<(usize, Fault)>,
+    mut then: impl FnMut(&Simulated, &Told),
+) {
+    let mut steps = 0;
+    for after in afters {
+        if after > steps {
+            break;
+        }
+        let disk = beginning.restart(0);
+        let faults = faults(after);
+        let _case = Case(format!("{faults:?}"));
+        for (operation, fault) in faults {
+            disk.set_fault(operation, fault);
+        }
+        let told = tell(&disk, entries.to_vec());
+        steps = disk.fault_steps();
+        then(&disk, &told);
+    }
+}
+
+/// What is left of a push that failed is cut off: so nothing is shown that a sync forgot.
 #[test]
 fn any_operation_may_fail() {
     at_every_operation(|beginning, operation, entries| {
-        let mut steps = 0;
-        for after in cuts(12 * PAGE, false) {
-            if after > steps {
-                break;
-            }
-            let _case = Case(format!("after {after} steps"));
-            let disk = beginning.restart(0);
-            disk.set_fault(operation, Fault::Fails { after });
-            let told = tell(&disk, entries.to_vec());
-            assert_eq!(disk.operations(), operation + 1);
-            steps = disk.fault_steps();
-            for lost in [disk.restart(0), disk.restart(usize::MAX)] {
-                go_on(&lost, &told);
-            }
-            go_on(&disk, &told);
+        for fault in [|after| Fault::Fails { after }, |after| Fault::Forgets { after }] {
+            let faults = |after| vec![(operation, fault(after))];
+            after_any_step(beginning, entries, cuts(12 * PAGE, false), faults, |disk, told| {
+                let pushed = !told.attempted.is_empty();
+                assert_eq!(disk.operations(), operation + if pushed { 3 } else { 1 });
+                let disks = [&disk.restart(0), &disk.restart(usize::MAX), disk];
+                if pushed {
+                    let settled = bytes_of(&told.settled);
+                    assert!(disks.iter().all(|disk| disk.bytes() == settled));
+                }
+                for disk in disks {
+                    go_on(disk, told);
+                }
+            });
         }
     });
+}
+
+/// The cut of a failed push may fail too, or its sync, or the power then: the log opens with the first entries of the
+/// push that are whole in the file, and what it answers stays. Of one case that is not promised: the push's sync forgot
+/// and the cut was not made. The log that is opened again then takes what reads show for what the disk has, and a power
+/// failure takes entries of that push back, or leaves zeros in their place. What was settled before stays, and what is
+/// pushed after them; and the log is sound, unless nothing was settled before and page 0 is lost.
+#[test]
+fn what_cuts_a_failed_push_back_may_fail() {
+    let (mut forgot, mut taken_back) = (0, 0);
+    let seconds = [
+        (1, Fault::Fails { after: 0 }),
+        (1, Fault::Fails { after: 1 }),
+        (1, Fault::LosesPower),
+        (2, Fault::Fails { after: 0 }),
+        (2, Fault::Forgets { after: 0 }),
+        (2, Fault::Forgets { after: 1_500 }),
+        (2, Fault::LosesPower),
+    ];
+    at_every_operation(|beginning, operation, entries| {
+        for (first, (later, second)) in [|after| Fault::Fails { after }, |after| Fault::Forgets { after }]
+            .into_iter()
+            .flat_map(|first: fn(usize) -> Fault| seconds.map(|second| (first, second)))
+        {
+            let faults = |after| vec![(operation, first(after)), (operation + later, second)];
+            let afters = (0..12 * PAGE).step_by(PAGE / 2);
+            after_any_step(beginning, entries, afters, faults, |disk, told| {
+                if told.attempted.is_empty() {
+                    return; // it was an opening that failed, and it cuts nothing back
+                }
+                assert_eq!(disk.operations(), operation + later + 1);
+                for steps in (0..=disk.steps()).step_by(PAGE / 2).chain([usize::MAX]) {
+                    go_on(&disk.restart(steps), told);
+                }
+                if disk.forgot() {
+                    assert!(matches!((first(0), later, second), (Fault::Forgets { .. }, 1, Fault::Fails { after: 0 })));
+                    forgot += 1;
+                    let (mut log, answered) = open_again(disk, told);
+                    let (_, kept) = open_again(&disk.restart(0), told);
+                    taken_back += u32::from(kept.len() < answered.len());
+                    let next = entry(log.take().unwrap(), 2);
+                    log.push(std::slice::from_ref(&next)).unwrap();
+                    let again = open(&disk.restart(0)).unwrap();
+                    for entry in told.settled.iter().chain([&next]) {
+                        assert_eq!(again.log().get(entry.id).unwrap().as_ref(), Some(&entry.data));
+                    }
+                    assert!(told.settled.is_empty() || again.log().check().is_ok());
+                } else if !matches!(second, Fault::LosesPower) {
+                    go_on(disk, told);
+                }
+            });
+        }
+    });
+    assert!(forgot > 0 && taken_back > 0, "what the comment tells of does not come up");
 }
 
 #[test]
@@ -200,7 +289,7 @@ fn the_power_may_fail_at_any_byte() {
         let disk = beginning.restart(0);
         disk.set_fault(operation, Fault::LosesPower);
         let told = tell(&disk, entries.to_vec());
-        assert_eq!(disk.operations(), operation + 1);
+        assert_eq!(disk.operations(), operation + if told.attempted.is_empty() { 1 } else { 2 });
         let every_byte = entries.is_empty(); // the other beginnings differ in how they are opened
         for steps in cuts(disk.steps(), every_byte) {
             let _case = Case(format!("{steps} steps kept"));

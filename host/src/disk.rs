@@ -16,7 +16,8 @@ pub(crate) trait Disk: fmt::Debug + Send + Sync {
     fn write(&mut self, position: u64, bytes: &[u8]) -> io::Result<()>;
     /// Makes the file shorter.
     fn cut(&mut self, length: u64) -> io::Result<()>;
-    /// Waits until the file's bytes and its length are on the disk, whoever wrote them.
+    /// Waits until the file's bytes and its length are on the disk, whoever wrote them. If it fails, a later one may
+    /// return without the bytes that this one was to cover, although a read has them.
     fn sync(&mut self) -> io::Result<()>;
     /// Waits until the file's name is: its folder holds that, not the file.
     fn sync_name(&mut self) -> io::Result<()>;

@@ -39,13 +39,14 @@ impl From<io::Error> for Error {
 }
 
 /// A log in a file. The library decides what the bytes are; this type reads, writes and syncs them. It answers nothing
-/// that no sync has covered, so that a power failure takes no answer back.
+/// before a sync that covers it has returned, so that a power failure takes no answer back; [`LogFile::push`] says what
+/// a disk can do against that.
 #[derive(Debug)]
 pub struct LogFile {
     disk: Box<dyn Disk>,
     log: Log,
     cut_off: CutOff,
-    /// A push failed, so that the file may have bytes that the memory has not.
+    /// A push failed: if it could not be cut back, the file has bytes that the memory has not.
     failed: bool,
 }
 
@@ -79,11 +80,15 @@ impl LogFile {
     /// pushed again, with the same ids, after [`LogFile::grow`], until the log is opened again: see [`PushRefused`].
     ///
     /// If the file cannot be written or synced, the error is [`Error::Io`], and the log answers as it did before the
-    /// push, from what the disk is known to have; ids that were taken stay taken. How much of the push the file got
-    /// nobody knows until the log is opened again, and until then no push is taken. The opening finds the first entries
-    /// of the batch that are whole in the file, none or some or all, and drops one that is cut. Their ids are above the
-    /// last written, so that nothing settled changes either way. One thing no opening can see: after a failed sync Linux
-    /// may let the next one return though the disk never got the bytes. See that the disk is well before you open again.
+    /// push, from what the disk is known to have; ids that were taken stay taken. The file is cut back to that as well,
+    /// if the disk lets it, and no push is taken until the log is opened again. Once the cut is synced, nothing of the
+    /// batch is left. Otherwise the opening may find the first entries of it that are whole, none or some or all, and
+    /// drops one that is cut. Their ids are above the last written, so that nothing settled changes either way.
+    ///
+    /// One thing no opening can see: after a failed sync Linux may let a later one return though the disk never got the
+    /// bytes. If the cut failed too, the log that is opened again then answers entries of the batch that a power failure
+    /// can still take away, or leave zeros in place of. It is the same if a process is stopped before its sync and the
+    /// sync of the next opening fails: there nobody knows where to cut. See that the disk is well before you open again.
     pub fn push(&mut self, entries: &[Entry]) -> Result<(), Error> {
         if self.failed {
             return Err(io::Error::other("an earlier push failed: open the log again").into());
@@ -94,6 +99,8 @@ impl LogFile {
             if let Err(error) = self.write_from(before.length) {
                 self.log.go_back(before);
                 self.failed = true;
+                // A later sync may return without what this one did not cover: no opening is to find those bytes.
+                let _ = self.disk.cut(before.length).and_then(|()| self.disk.sync());
                 return Err(error.into());
             }
         }

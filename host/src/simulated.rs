@@ -27,8 +27,12 @@ impl Chance {
 /// What is to happen at one operation, counted from 0.
 #[derive(Clone, Copy, Debug)]
 pub(crate) enum Fault {
-    /// It fails after so many of its steps; they are in the file all the same.
+    /// It fails after so many of its steps; they are in the file all the same. A sync has none: the next one covers all.
     Fails { after: usize },
+    /// A sync fails and forgets: of what it was to cover the disk has the first steps and no more, and no later sync
+    /// covers the rest, though reads show it. So Linux does where it takes pages for clean that could not be written. A
+    /// cut is not forgotten: a file system with a journal stops if it cannot write a file's length.
+    Forgets { after: usize },
     /// It is begun and the power is lost: neither it nor any later one returns well.
     LosesPower,
 }
@@ -62,15 +66,35 @@ impl Change {
 
 #[derive(Clone, Debug)]
 struct Inside {
+    /// What a power failure leaves.
     synced: Vec<u8>,
+    /// What a read sees.
+    shown: Vec<u8>,
     named: bool,
-    /// What was asked for since the last sync, in order. A read sees it; a power failure keeps any part of it.
+    /// What was asked for since the last sync, in order. The next one covers it; a power failure keeps any part of it.
     unsynced: Vec<Change>,
     operations: usize,
-    fault: Option<(usize, Fault)>,
-    /// The steps that the operation with the fault would have had.
+    faults: Vec<(usize, Fault)>,
+    /// The steps that the first operation with a fault would have had, or what it was to cover.
     fault_steps: usize,
     off: bool,
+}
+
+impl Inside {
+    fn steps(&self) -> usize {
+        self.unsynced.iter().map(Change::steps).sum()
+    }
+
+    /// What was synced, and of what was asked for since the first steps.
+    fn after_steps(&self, mut steps: usize) -> Vec<u8> {
+        let mut file = self.synced.clone();
+        for change in &self.unsynced {
+            let made = steps.min(change.steps());
+            change.make(made, &mut file);
+            steps -= made;
+        }
+        file
+    }
 }
 
 /// A handle of the disk: the log has one, and the test another.
@@ -79,8 +103,8 @@ pub(crate) struct Simulated(Arc<Mutex<Inside>>);
 
 impl Simulated {
     fn holding(synced: Vec<u8>, named: bool) -> Simulated {
-        let unsynced = Vec::new();
-        let inside = Inside { synced, named, unsynced, operations: 0, fault: None, fault_steps: 0, off: false };
+        let (shown, unsynced, faults) = (synced.clone(), Vec::new(), Vec::new());
+        let inside = Inside { synced, shown, named, unsynced, operations: 0, faults, fault_steps: 0, off: false };
         Simulated(Arc::new(Mutex::new(inside)))
     }
 
@@ -94,8 +118,14 @@ impl Simulated {
         Simulated::holding(bytes.to_vec(), true)
     }
 
+    /// Sets a fault, the earliest first.
     pub(crate) fn set_fault(&self, operation: usize, fault: Fault) {
-        self.0.lock().unwrap().fault = Some((operation, fault));
+        self.0.lock().unwrap().faults.push((operation, fault));
+    }
+
+    /// What the first operation that failed said.
+    pub(crate) fn first_error(&self) -> String {
+        failed(self.0.lock().unwrap().faults[0].0).to_string()
     }
 
     pub(crate) fn fault_steps(&self) -> usize {
@@ -109,23 +139,22 @@ impl Simulated {
 
     /// The file as a read sees it.
     pub(crate) fn bytes(&self) -> Vec<u8> {
-        self.after_steps(usize::MAX)
+        self.0.lock().unwrap().shown.clone()
+    }
+
+    /// Whether a read sees what no sync will cover.
+    pub(crate) fn forgot(&self) -> bool {
+        let inside = self.0.lock().unwrap();
+        inside.after_steps(usize::MAX) != inside.shown
     }
 
     /// How many steps are not synced: a power failure can come after any of them.
     pub(crate) fn steps(&self) -> usize {
-        self.0.lock().unwrap().unsynced.iter().map(Change::steps).sum()
+        self.0.lock().unwrap().steps()
     }
 
-    fn after_steps(&self, mut steps: usize) -> Vec<u8> {
-        let inside = self.0.lock().unwrap();
-        let mut file = inside.synced.clone();
-        for change in &inside.unsynced {
-            let made = steps.min(change.steps());
-            change.make(made, &mut file);
-            steps -= made;
-        }
-        file
+    fn after_steps(&self, steps: usize) -> Vec<u8> {
+        self.0.lock().unwrap().after_steps(steps)
     }
 
     fn restart_with(&self, file: Vec<u8>) -> Simulated {
@@ -161,22 +190,36 @@ impl Simulated {
         let operation = inside.operations;
         inside.operations += 1;
         if inside.off {
-            return (0, Err(io::Error::other("no power")));
+            return (0, Err(failed(operation)));
         }
-        let Some((_, fault)) = inside.fault.filter(|(at, _)| *at == operation) else { return (steps, Ok(())) };
-        inside.fault_steps = steps;
-        match fault {
-            Fault::Fails { after } => (after.min(steps), Err(io::Error::other("the disk failed"))),
+        let Some(&(_, fault)) = inside.faults.iter().find(|(at, _)| *at == operation) else { return (steps, Ok(())) };
+        if operation == inside.faults[0].0 {
+            inside.fault_steps = if let Fault::Forgets { .. } = fault { inside.steps() } else { steps };
+        }
+        let done = match fault {
+            Fault::Fails { after } => after.min(steps),
+            Fault::Forgets { after } => {
+                inside.synced = inside.after_steps(after);
+                inside.unsynced.retain(|change| matches!(change, Change::Cut { .. }));
+                0
+            }
             Fault::LosesPower => {
                 inside.off = true;
-                (steps, Err(io::Error::other("the power was lost")))
+                steps
             }
-        }
+        };
+        (done, Err(failed(operation)))
     }
 
     fn change(&self, change: Change) {
-        self.0.lock().unwrap().unsynced.push(change);
+        let mut inside = self.0.lock().unwrap();
+        change.make(change.steps(), &mut inside.shown);
+        inside.unsynced.push(change);
     }
+}
+
+fn failed(operation: usize) -> io::Error {
+    io::Error::other(format!("operation {operation} failed"))
 }
 
 impl Disk for Simulated {
@@ -207,9 +250,8 @@ impl Disk for Simulated {
     fn sync(&mut self) -> io::Result<()> {
         let (_, end) = self.begin(0);
         if end.is_ok() {
-            let synced = self.bytes();
             let mut inside = self.0.lock().unwrap();
-            inside.synced = synced;
+            inside.synced = inside.after_steps(usize::MAX);
             inside.unsynced.clear();
         }
         end

@@ -1,9 +1,9 @@
 //! The log in a file: what is written, synced, cut and refused; and the example's story. What a disk can do to it that
 //! no test can make a real one do is in src/crashes.rs.
 use std::{
-    env, fs,
+    env, fs, io,
     path::{Path, PathBuf},
-    process::Command,
+    process::{Command, Output},
 };
 
 use awirbesh::{CutOff, Entry, Error, LogFile, PushRefused, Refusal, State};
@@ -41,13 +41,45 @@ fn own_process() -> Option<PathBuf> {
 }
 
 /// Runs a test of this file again, by a shell that first does what it is told to.
-fn run_again(test: &str, log: &Path, first: &str, variables: &[(&str, &Path)]) {
+fn run_again(test: &str, log: &Path, first: &str, variables: &[(&str, &Path)]) -> Output {
     let mut shell = Command::new("sh");
     shell.args(["-c", &format!("{first}\nexec \"$@\""), "sh"]).arg(env::current_exe().unwrap());
     shell.args(["--exact", test]).env(OWN_PROCESS, log).envs(variables.iter().copied());
-    let ran = shell.output().unwrap();
-    assert!(ran.status.success(), "{}{}", String::from_utf8_lossy(&ran.stdout), String::from_utf8_lossy(&ran.stderr));
-    assert!(String::from_utf8_lossy(&ran.stdout).contains("1 passed"));
+    shell.output().unwrap()
+}
+
+/// A folder for a log, with a list of what is asked of the disk for the files in it.
+struct Recorder {
+    folder: PathBuf,
+    list: PathBuf,
+    library: PathBuf,
+    _scratch: Scratch,
+}
+
+impl Recorder {
+    fn new(name: &str) -> Recorder {
+        let scratch = Scratch::new(name);
+        fs::create_dir_all(scratch.0.join("kept")).unwrap();
+        let all = fs::canonicalize(&scratch.0).unwrap();
+        let (folder, list, library) = (all.join("kept"), all.join("list"), all.join("record.so"));
+        let source = Path::new(env!("CARGO_MANIFEST_DIR")).join("tests/record.c");
+        let compile = "${CC:-cc} -std=c11 -Wall -Wextra -Werror -pedantic -shared -fPIC -o \"$@\"";
+        let compiled = Command::new("sh").args(["-c", compile, "sh"]).args([&library, &source]).status().unwrap();
+        assert!(compiled.success());
+        Recorder { folder, list, library, _scratch: scratch }
+    }
+
+    /// Runs a test again, and says what it asked of the disk.
+    fn run_again(&self, test: &str, log: &Path, first: &str) -> String {
+        let _ = fs::remove_file(&self.list);
+        let variables =
+            [("LD_PRELOAD", &*self.library), ("RECORD_FOLDER", &*self.folder), ("RECORD_LIST", &*self.list)];
+        let ran = run_again(test, log, first, &variables);
+        let said = String::from_utf8_lossy(&ran.stdout);
+        assert!(ran.status.success(), "{said}{}", String::from_utf8_lossy(&ran.stderr));
+        assert!(said.contains("1 passed"));
+        fs::read_to_string(&self.list).unwrap()
+    }
 }
 
 #[test]
@@ -173,41 +205,62 @@ fn a_file_that_was_cut_opens() {
     }
 }
 
-/// An entry that no write can finish: the log answers what it has, and opens again without it.
+/// For a file: 4,608 bytes, or 9,216 where the shell counts in blocks of 1,024. The entry does not fit.
+const LIMIT: &str = "ulimit -f 9";
+
+fn long(id: u64) -> Entry {
+    Entry::new(id, [3; 9_000])
+}
+
+fn settled() -> [Entry; 2] {
+    [Entry::new(1, "one"), Entry::new(2, "two")]
+}
+
+/// Opens a log after what was settled, and an entry that did not fit: so much was cut off, and now the entry goes in.
+fn without_a_limit(path: &Path, beyond: u64) {
+    let mut log = LogFile::open(path, CAPACITY).unwrap();
+    assert_eq!(log.cut_off(), CutOff { excess: beyond % 1024, dropped: beyond / 1024 });
+    assert_eq!(log.log().state(), State { length: 2048, last: 2, next: 3 });
+    assert_eq!(entries_of(&log), settled());
+    assert_eq!(fs::read(path).unwrap(), log.log().bytes());
+    let long = long(log.take().unwrap());
+    log.push(std::slice::from_ref(&long)).unwrap();
+    drop(log);
+    let again = LogFile::open(path, CAPACITY).unwrap();
+    assert_eq!(entries_of(&again), [&settled()[..], &[long]].concat());
+}
+
+/// A write that the limit stops with an error: the log answers what it has, and the file is cut back to that and synced.
 #[test]
-fn an_entry_stopped_by_a_file_size_limit_locks_nothing_out() {
-    let settled = [Entry::new(1, "one"), Entry::new(2, "two")];
+fn an_entry_stopped_by_a_file_size_limit_is_cut_back() {
     if let Some(path) = own_process() {
-        let mut log = LogFile::open(path, CAPACITY).unwrap();
-        log.push(&settled).unwrap();
-        let (two, long) = ([log.take().unwrap(), log.take().unwrap()], log.take().unwrap());
+        let mut log = LogFile::open(&path, CAPACITY).unwrap();
+        log.push(&settled()).unwrap();
+        let (two, id) = ([log.take().unwrap(), log.take().unwrap()], log.take().unwrap());
         let before = log.log().state();
         assert_eq!((two, before), ([1, 2], State { length: 2048, last: 2, next: 4 }));
-        assert!(matches!(log.push(&[Entry::new(long, [3; 9_000])]), Err(Error::Io(_))));
-        assert_eq!((log.log().get(long), log.log().state()), (Ok(None), before));
-        assert_eq!(entries_of(&log), settled);
+        match log.push(&[long(id)]) {
+            Err(Error::Io(error)) => assert_eq!(error.kind(), io::ErrorKind::FileTooLarge),
+            other => panic!("{other:?}"),
+        }
+        assert_eq!((log.log().get(id), log.log().state()), (Ok(None), before));
+        assert_eq!(entries_of(&log), settled());
         match log.push(&[Entry::new(4, "four")]) {
             Err(Error::Io(error)) => assert!(error.to_string().contains("open the log again")),
             other => panic!("{other:?}"),
         }
+        assert_eq!(fs::read(path).unwrap(), log.log().bytes());
         return;
     }
-    let path = Scratch::new("limit");
-    // 4,608 bytes, or 9,216 where the shell counts in blocks of 1,024; a write beyond them is an error and no signal.
-    let test = "an_entry_stopped_by_a_file_size_limit_locks_nothing_out";
-    run_again(test, &path.0, "trap '' XFSZ; ulimit -f 9", &[]);
-    let beyond = fs::metadata(&path.0).unwrap().len() - 2048;
-    assert!([2_560, 7_168].contains(&beyond));
-
-    let mut log = LogFile::open(&path.0, CAPACITY).unwrap();
-    assert_eq!(log.cut_off(), CutOff { excess: beyond % 1024, dropped: beyond / 1024 });
-    assert_eq!(log.log().state(), State { length: 2048, last: 2, next: 3 });
-    assert_eq!(entries_of(&log), settled);
-    let long = Entry::new(log.take().unwrap(), [3; 9_000]);
-    log.push(std::slice::from_ref(&long)).unwrap();
-    drop(log);
-    let again = LogFile::open(&path.0, CAPACITY).unwrap();
-    assert_eq!(entries_of(&again), [&settled[..], &[long]].concat());
+    let recorder = Recorder::new("limit");
+    let log = recorder.folder.join("log");
+    let test = "an_entry_stopped_by_a_file_size_limit_is_cut_back";
+    let asked = recorder.run_again(test, &log, &format!("trap '' XFSZ; {LIMIT}"));
+    let opened_and_pushed = "sync /log\nsync \nwrite /log\nsync /log\n";
+    let stopped = "write /log\nwrite /log\ncut /log\nsync /log\n"; // the first write is cut short, the second fails
+    assert_eq!(asked, format!("{opened_and_pushed}{stopped}"));
+    assert_eq!(fs::metadata(&log).unwrap().len(), 2048);
+    without_a_limit(&log, 0);
 }
 
 /// The real file's own syncs, in their order: at an opening of the file and of the folder that it is in, after a cut, and
@@ -222,23 +275,10 @@ fn the_file_and_its_folder_are_synced() {
         }
         return;
     }
-    let scratch = Scratch::new("synced");
-    fs::create_dir_all(scratch.0.join("kept")).unwrap();
-    let all = fs::canonicalize(&scratch.0).unwrap();
-    let (kept, log, link, list) = (all.join("kept"), all.join("kept/log"), all.join("link"), all.join("list"));
+    let recorder = Recorder::new("synced");
+    let (log, link) = (recorder.folder.join("log"), recorder.folder.join("../link"));
     std::os::unix::fs::symlink(&log, &link).unwrap();
-    let record = all.join("record.so");
-    let source = Path::new(env!("CARGO_MANIFEST_DIR")).join("tests/record.c");
-    let compile = "${CC:-cc} -std=c11 -Wall -Wextra -Werror -pedantic -shared -fPIC -o \"$@\"";
-    let compiled = Command::new("sh").args(["-c", compile, "sh"]).args([&record, &source]).status().unwrap();
-    assert!(compiled.success());
-
-    let recorded = || {
-        let _ = fs::remove_file(&list);
-        let variables = [("LD_PRELOAD", &*record), ("RECORD_FOLDER", &*kept), ("RECORD_LIST", &*list)];
-        run_again("the_file_and_its_folder_are_synced", &link, "", &variables);
-        fs::read_to_string(&list).unwrap()
-    };
+    let recorded = || recorder.run_again("the_file_and_its_folder_are_synced", &link, "");
     let push = "write /log\nsync /log\n";
     assert_eq!(recorded(), format!("sync /log\nsync \n{push}{push}"));
     fs::File::options().write(true).open(&log).unwrap().set_len(5 * 1024 + 5).unwrap();
