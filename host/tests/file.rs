@@ -2,6 +2,7 @@
 //! no test can make a real one do is in src/crashes.rs.
 use std::{
     env, fs, io,
+    os::unix::process::ExitStatusExt,
     path::{Path, PathBuf},
     process::{Command, Output},
 };
@@ -261,6 +262,25 @@ fn an_entry_stopped_by_a_file_size_limit_is_cut_back() {
     assert_eq!(asked, format!("{opened_and_pushed}{stopped}"));
     assert_eq!(fs::metadata(&log).unwrap().len(), 2048);
     without_a_limit(&log, 0);
+}
+
+/// A process that is killed in the middle of a write, here by the limit's signal: nobody cuts back what it wrote, and the
+/// next opening drops it.
+#[test]
+fn an_entry_whose_writer_was_killed_is_dropped() {
+    if let Some(path) = own_process() {
+        let mut log = LogFile::open(path, CAPACITY).unwrap();
+        log.push(&settled()).unwrap();
+        let _ = log.push(&[long(3)]);
+        return;
+    }
+    let path = Scratch::new("killed");
+    let test = "an_entry_whose_writer_was_killed_is_dropped";
+    let ran = run_again(test, &path.0, &format!("ulimit -c 0; {LIMIT}"), &[]);
+    assert_eq!(ran.status.signal(), Some(25)); // SIGXFSZ
+    let beyond = fs::metadata(&path.0).unwrap().len() - 2048;
+    assert!([2_560, 7_168].contains(&beyond));
+    without_a_limit(&path.0, beyond);
 }
 
 /// The real file's own syncs, in their order: at an opening of the file and of the folder that it is in, after a cut, and
