@@ -2,6 +2,7 @@
 //! of what no sync has covered every cut. What is promised of a cut is promised of the first bytes that were written,
 //! however many; a disk that keeps later ones and not the earlier has a test of its own, which says what then holds.
 use crate::{
+    disk::Disk,
     simulated::{Chance, Fault, Simulated},
     CutOff, Entry, Error, LogFile, Refusal,
 };
@@ -281,6 +282,26 @@ fn what_cuts_a_failed_push_back_may_fail() {
         }
     });
     assert!(forgot > 0 && taken_back > 0, "what the comment tells of does not come up");
+}
+
+/// A process was stopped between its write and the sync, and the sync of the next opening fails and forgets. Nobody knows
+/// where to cut, so no more is promised than where a push could not be cut back.
+#[test]
+fn the_sync_of_an_opening_may_forget_what_another_wrote() {
+    let told = Told { settled: vec![entry(1, 2)], attempted: vec![entry(2, 3), entry(3, 1)] };
+    let (before, bytes) = (bytes_of(&told.settled), bytes_of(&[&*told.settled, &*told.attempted].concat()));
+    let mut taken_back = 0;
+    for after in cuts(bytes.len() - before.len(), false) {
+        let _case = Case(format!("after {after} steps"));
+        let mut disk = Simulated::with(&before);
+        disk.write(before.len() as u64, &bytes[before.len()..]).unwrap();
+        disk.set_fault(disk.operations(), Fault::Forgets { after });
+        assert!(matches!(open(&disk), Err(Error::Io(_))));
+        let (_, answered) = open_again(&disk, &told);
+        let (_, kept) = open_again(&disk.restart(0), &told);
+        taken_back += u32::from(kept.len() < answered.len());
+    }
+    assert!(taken_back > 0);
 }
 
 #[test]
