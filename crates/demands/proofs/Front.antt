@@ -35,7 +35,7 @@ module _ (log : List ℕ) (m : ℕ) (inside : m ≤ pageCount log) where
     pub length-front : lengthAt log p ≡ lengthAt front p
     length-front = length-same log front p p page-front
 
-    id-front : idAt log p ≡ idAt front p
+    pub id-front : idAt log p ≡ idAt front p
     id-front = id-same log front p p page-front
 
     pub start-front : Start log p → Start front p

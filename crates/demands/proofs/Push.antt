@@ -4,3 +4,4 @@ pub mod Batch
 pub mod Places
 pub mod Alone
 pub mod Retrying
+pub mod Full

@@ -3,4 +3,5 @@ pub mod Resuming
 pub mod Reading
 pub mod Uncut
 pub mod Again
+pub mod Refusing
 pub mod Torn

@@ -217,11 +217,11 @@ pub record Keeps (w : World) (id : ℕ) (s : Standing) (d : List ℕ) : Type 0 w
   pub answers : Answers w id s d
   pub exact : ExactlyStored (logOf w) id s d
 
--- 11.10 "After a cut that recovery answers with 9": so many pages are left, and with the state that the caller makes up for them the id keeps its answer
-pub record KeepsFull (w : World) (n : ℕ) (rest : List ℕ) (id : ℕ) (s : Standing) (d : List ℕ) : Type 0 where
+-- 11.10 "After a cut that recovery answers with 9": so many pages are left, and from the state that the caller makes up for them on the id keeps its answer
+pub record KeepsFull (w : World) (n : ℕ) (rest : List ℕ) (id : ℕ) (s : Standing) (d : List ℕ) (bytes : ℕ) : Type 0 where
   pub left : ℕ
   pub is-left : Left (logOf w) (length (keptOf w n) / pageSize) left
-  pub keeps : Keeps (world (keptOf w n ++ rest) (stateOf (left * pageSize) topId topId)) id s d
+  pub keeps : (later : List Call) → AllSpare bytes later → Keeps (run (world (keptOf w n ++ rest) (stateOf (left * pageSize) topId topId)) later) id s d
 
 -- 11.10 "gives what the first one gave": that is chosen before any later call is; every later call keeps it, and every later lookup gave it,
 -- 11.10 "as long as no cut falls below the length that the log had when the id was settled"
@@ -231,7 +231,7 @@ pub record KeepsFirst (w : World) (id : ℕ) : Type 0 where
   pub kept : (later : List Call) → AllSpare (w .state .length) later → Keeps (run w later) id stands data-is
   pub gave : (later : List Call) → AllSpare (w .state .length) later → (x : Said) → List·Memᴰ x (said w later) → Gives (x .call) (x .reply) id stands data-is
   pub full : (later : List Call) → AllSpare (w .state .length) later → (n : ℕ) (rest : List ℕ) → w .state .length ≤ n
-      → recoverOf (keptOf (run w later) n ++ rest) (length (keptOf (run w later) n)) ≡ unrecovered 9 0 → id < topId → KeepsFull (run w later) n rest id stands data-is
+      → recoverOf (keptOf (run w later) n ++ rest) (length (keptOf (run w later) n)) ≡ unrecovered 9 0 → id < topId → KeepsFull (run w later) n rest id stands data-is (w .state .length)
 
 -- ---- reading back
 

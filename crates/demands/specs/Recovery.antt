@@ -11,7 +11,8 @@ use Rattle.page.specs.Mark.{markAt, byMark}
 use Rattle.page.specs.Entry.{Starting, short, cut, whole, idAt, afterAt, entryAt}
 use Rattle.log.specs.Bounds.{tooLong}
 use Rattle.log.specs.State.{fresh, recoveredAt, topId}
-use Rattle.log.specs.Recovery.{Recovering, recovered, refused, atWhole, firstPages, excessOf, cutLog}
+use Rattle.log.specs.Recovery.{Recovering, recovered, refused, atWhole, firstPages, excessOf, wholePages}
+use Rattle.log.specs.declared.state.State.{State}
 use Rattle.demands.specs.Sound.{Start, Sound, Last, LastStored}
 use Rattle.demands.specs.Push.{Push, outcome, Counted, endsAt, logWith, lastOf}
 
@@ -66,6 +67,12 @@ pub record Apart (log : List ℕ) (p : ℕ) : Type 0 where
   pub before : (q : ℕ) → Start log q → p < q → afterAt log p ≤ q
   pub within : afterAt log p ≤ pageCount log
 
+-- the entry at which recovery ended with a state
+pub record EndedAt (log : List ℕ) (st : State) : Type 0 where
+  pub page : ℕ
+  pub apart : Apart log page
+  pub has : idAt log page ≡ st .last
+
 -- ---- a recovery that drops nothing: 7 at a cut entry, and all else as rules 6 has it
 
 -- at the start on page s of a log of n bytes
@@ -81,4 +88,4 @@ strictBack excess log (suc p) = byMark (markAt log p) (strictAt (length log) exc
 
 -- of so many bytes of a store
 unfoldable pub strictOf : List ℕ → ℕ → Recovering
-strictOf store n = pick (tooLong store n) (refused 1 0) (strictBack (excessOf n) (cutLog store n) (pageCount (cutLog store n)))
+strictOf store n = pick (tooLong store n) (refused 1 0) (strictBack (excessOf n) (wholePages store n) (pageCount (wholePages store n)))

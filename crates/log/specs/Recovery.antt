@@ -52,9 +52,9 @@ walkBack pages excess log (suc p) =
 abbrev pub excessOf : ℕ → ℕ
 excessOf n = n % pageSize
 
--- 6.2 "are cut off": the log that is left
-abbrev pub cutLog : List ℕ → ℕ → List ℕ
-cutLog store n = take (n - excessOf n) store
+-- 6.2 "are cut off": the whole pages before them
+abbrev pub wholePages : List ℕ → ℕ → List ℕ
+wholePages store n = take (n - excessOf n) store
 
 -- 6.4 "from the last page left"
 unfoldable pub recoverLog : List ℕ → ℕ → Recovering
@@ -62,4 +62,4 @@ recoverLog log excess = walkBack (pageCount log) excess log (pageCount log)
 
 -- 6.1 "1 if it is above the store's size, or the store is too long"; 6.2 "the excess, are cut off, and their count is reported"
 unfoldable pub recoverOf : List ℕ → ℕ → Recovering
-recoverOf store n = pick (tooLong store n) (refused 1 0) (recoverLog (cutLog store n) (excessOf n))
+recoverOf store n = pick (tooLong store n) (refused 1 0) (recoverLog (wholePages store n) (excessOf n))

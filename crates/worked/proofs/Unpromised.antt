@@ -48,9 +48,9 @@ unmarked-is-lost = refl
 -- ---- 12.2: ids that come again after a restart
 
 -- one that was taken and never pushed
-pub dropped-comes-again : run begins (take-id ∷ recover ∷ take-id ∷ []) ≡ run begins (take-id ∷ [])
+pub taken-comes-again : run begins (take-id ∷ recover ∷ take-id ∷ []) ≡ run begins (take-id ∷ [])
 unfolding pagesFor pageAt numberAt bytesOf markAt lengthAt idAt entryAt filled firstPage laterPage laterPages entryPages tooLong takeOf atWhole atStart walkBack recoverLog recoverOf answer step run
-dropped-comes-again = refl
+taken-comes-again = refl
 
 -- one that 4 refused
 pub refused-comes-again : run begins (take-id ∷ pushes-four much ∷ recover ∷ take-id ∷ []) ≡ run begins (take-id ∷ [])
@@ -88,6 +88,24 @@ pub stale-stays : getD (pushOf stale (begins .state) (5 ∷ []) (1 ∷ []) (8 �
 unfolding pagesFor pageAt bytesOf filled firstPage laterPage laterPages entryPages tooLong badState entryData some badEnd badBatch largeData someLarge wrote turn entriesFrom pushOf
 stale-stays = refl
 
+-- ---- 12.8: damage to the last entry that looks like a cut
+
+-- a bit of its length, so that it goes past the log's end
+abbrev longer : List ℕ
+longer = take 2050 store ++ (7 ∷ drop 2051 store)
+
+-- the mark of its later page, which then starts an entry that goes past the end
+abbrev marked : List ℕ
+marked = take 3072 store ++ (1 ∷ drop 3073 store)
+
+pub damage-dropped : (recoverOf longer 4096 ≡ recovered (stateOf 2048 1 2) 0 2) × (recoverOf marked 4096 ≡ recovered (stateOf 2048 1 2) 0 2)
+unfolding pagesFor pageAt numberAt bytesOf markAt lengthAt idAt entryAt filled firstPage laterPage laterPages entryPages tooLong atWhole atStart walkBack recoverLog recoverOf
+damage-dropped = (refl, refl)
+
+pub damage-told : (checkOf longer 4096 ≡ refused 7 2) × (checkOf marked 4096 ≡ refused 14 3)
+unfolding pagesFor pageAt numberAt bytesOf markAt lengthAt idAt entryAt filled firstPage laterPage laterPages entryPages tooLong laterMarks checkStart checkPage checkEnd checkFrom checkOf
+damage-told = (refl, refl)
+
 -- ---- 12.7: bytes before the cut that are not the log's
 
 -- a page of an earlier log, id 1 again, where the next entry was to be
@@ -106,6 +124,22 @@ overlapped id = entryPages id [] ++ (take 1024 (entryPages 2 (replicate 1013 9))
 pub overlapped-differs : (recoverOf (overlapped 1) 3072 ≡ recovered (stateOf 1024 1 2) 0 2) × (recoverOf (overlapped 9) 3072 ≡ recovered (stateOf 1024 9 10) 0 2)
 unfolding pagesFor pageAt numberAt bytesOf markAt lengthAt idAt entryAt filled firstPage laterPage laterPages entryPages tooLong atWhole atStart walkBack recoverLog recoverOf
 overlapped-differs = (refl, refl)
+
+-- nor is it enough that two logs agree from a start on whose entry is cut
+
+abbrev ends-cut : ℕ → List ℕ
+ends-cut id = entryPages id [] ++ take 1024 (entryPages 2 (replicate 1013 9))
+
+pub cut-differs : (recoverOf (ends-cut 1) 2048 ≡ recovered (stateOf 1024 1 2) 0 1) × (recoverOf (ends-cut 9) 2048 ≡ recovered (stateOf 1024 9 10) 0 1)
+unfolding pagesFor pageAt numberAt bytesOf markAt lengthAt idAt entryAt filled firstPage laterPage laterPages entryPages tooLong atWhole atStart walkBack recoverLog recoverOf
+cut-differs = (refl, refl)
+
+-- ---- 11.7 asks of a push that is cut that last written is the last stored id: 10, pushed from a made-up 9 and cut where it begins, leaves 3
+
+pub made-up-torn : (pushOf store (stateOf 4096 9 10) (10 ∷ []) (0 ∷ []) [] .answer .written ≡ 1)
+    × (recoverOf (pushOf store (stateOf 4096 9 10) (10 ∷ []) (0 ∷ []) [] .store) 4096 ≡ recovered (stateOf 4096 3 4) 0 0)
+unfolding pagesFor pageAt numberAt bytesOf markAt lengthAt idAt entryAt filled firstPage laterPage laterPages entryPages tooLong badState entryData some badEnd badBatch largeData someLarge wrote turn entriesFrom pushOf atWhole atStart walkBack recoverLog recoverOf
+made-up-torn = (refl, refl)
 
 -- ---- 11.9 and 11.10 ask that no cut falls below: 3, settled and found, is lost by a cut in its last page, and 5 by one in its own, though both are below next again
 

@@ -12,10 +12,11 @@
 --   pages-alone, earlier-hidden               5 after 9, 9, 9 over 255s, by itself after that log, after 6: five-alike, nines-hidden
 --   filling-written                           of its second page, over 255s: five-filled
 --   read-back                                 two ids are taken, and the second, 5, is pushed: five-reads-back, five-stays-read
---   torn, cut-at-byte, uncut-same             4 and 5 are pushed and cut in 5; a log cut without a push; one that is not cut: both-torn, four-kept, cut-in-three, whole-uncut
+--   torn, cut-at-byte, uncut-same             4 and 5 are pushed and cut in 5; a log cut without a push; one that is not cut: both-torn, four-kept, cut-in-three, whole-uncut; five-is-cut
 --   recovered-again, recovered-adds-up        of that cut: four-again
 --   begun-lives                               of what is left of a torn log: torn-begins
 --   settled, through cuts and after 9         then 3 is found as before: torn-goes-on, three-through-a-cut, three-after-nine
+--   read-back, through a cut in the push      of 4, where 5 is cut: four-reads-back, four-below-next, four-stays-read
 --   recover-right, recover-alike              a length with an excess; logs that differ before their last whole entry: excess-recovers, recovers-alike, torn-alike
 --   complete-right, note-adds                 over words that are not zero: notes-right, three-added
 --   data-one-part                             the data of an entry of one page: five-bytes
@@ -44,7 +45,7 @@ use Rattle.demands.specs.Scan.{Enough, Scans}
 use Rattle.log.specs.Guess.{leastFrom, leastShift, offsetOf}
 use Rattle.log.specs.Lookup.{found, roundFrom, window, allPages, compared, sayingAt, turned, walk, search, searchOf, findOf, handFound, lookupOf}
 use Rattle.log.specs.Check.{laterMarks, checkStart, checkPage, checkEnd, checkFrom, checkOf}
-use Rattle.log.specs.Recovery.{recovered, cutLog, atWhole, atStart, walkBack, recoverLog, recoverOf}
+use Rattle.log.specs.Recovery.{recovered, refused as unrecovered, wholePages, atWhole, atStart, walkBack, recoverLog, recoverOf}
 use Rattle.pushing.specs.Push.{none, refused, point, bytesFor, Done, done, entryData, some, badEnd, badBatch, largeData, someLarge, wrote, turn, entriesFrom, pushOf}
 use Rattle.scanning.specs.Range.{holdsOf}
 use Rattle.scanning.specs.Scan.{scanOf}
@@ -315,7 +316,7 @@ four-kept = refl
 abbrev torn-store : List ℕ
 torn-store = take 6620 (outcome cut-push .store) ++ (1 ∷ [])
 
-four-apart : Apart (cutLog torn-store 6620) 4
+four-apart : Apart (wholePages torn-store 6620) 4
 unfolding pagesFor pageAt numberAt bytesOf markAt lengthAt filled firstPage laterPage laterPages entryPages tooLong badState entryData some badEnd badBatch largeData someLarge wrote turn entriesFrom pushOf
 four-apart = record { start = record { inside = lit< tt; marked = refl }; before = λ q h l. l; within = lit≤ tt }
 
@@ -324,6 +325,11 @@ unfolding pagesFor bytesOf filled firstPage laterPage laterPages entryPages tooL
 torn-alike =
     recover-alike torn-store (entryPages 1 (6 ∷ []) ++ drop 1024 torn-store) 6620 4
     (record { small = lit≤ tt; inside = lit≤ tt }) (record { small = lit≤ tt; inside = lit≤ tt }) four-apart refl
+
+-- a recovery that drops nothing refuses it
+pub five-is-cut : strictOf torn-store 6620 ≡ unrecovered 7 5
+unfolding pagesFor pageAt numberAt bytesOf markAt lengthAt idAt entryAt filled firstPage laterPage laterPages entryPages tooLong badState entryData some badEnd badBatch largeData someLarge wrote turn entriesFrom pushOf atWhole strictAt strictBack strictOf
+five-is-cut = refl
 
 -- what is left of it recovers to the same, and all of it adds up
 pub four-again : (recoverOf torn-store 5120 ≡ recovered (stateOf 5120 4 5) 0 0) × (5120 + 1 * 1024 + 476 ≡ 6620)
@@ -354,9 +360,27 @@ top-word (suc k) = lit< tt
 abbrev pushes-top : Call
 pushes-top = push (0xffffffffffffffff ∷ []) (0 ∷ []) [] top-word
 
-pub three-after-nine : KeepsFull (run begins (pushes-top ∷ [])) 5120 [] 3 (present 2048 1013) (replicate 1013 9)
+pub three-after-nine : KeepsFull (run begins (pushes-top ∷ [])) 5120 [] 3 (present 2048 1013) (replicate 1013 9) 4096
 unfolding pagesFor pageAt numberAt bytesOf markAt lengthAt idAt entryAt placeOf dataOf dataAt filled firstPage laterPage laterPages entryPages tooLong badState leastFrom leastShift offsetOf compared sayingAt turned walk search searchOf findOf entryData some badEnd badBatch largeData someLarge wrote turn entriesFrom pushOf atWhole atStart walkBack recoverLog recoverOf standingData settled answer step run
 three-after-nine = settled begins begins-there [] 3 (settled-there 3 (lit≤ tt) (lit≤ tt)) .full (pushes-top ∷ []) (tt, tt) 5120 [] (lit≤ tt) refl (lit< tt)
+
+-- 4 reads back through any cut after its page, though 5 of the same push is cut
+abbrev lent-calls : List Call
+lent-calls = lend (replicate 3072 0) ∷ take-id ∷ take-id ∷ []
+
+pub four-reads-back : ReadsBack (step (run begins lent-calls) pushes-both) 4 (8 ∷ []) 5120
+unfolding pagesFor pageAt bytesOf filled firstPage laterPage laterPages entryPages tooLong badState takeOf entryData some badEnd badBatch largeData someLarge wrote turn entriesFrom pushOf batchPages anotherStore answer step run
+four-reads-back = read-back begins begins-there lent-calls (4 ∷ 5 ∷ []) (1 ∷ 1014 ∷ []) both two-words 0 (lit< tt)
+
+abbrev cut-then : World
+cut-then = run (step (run begins lent-calls) pushes-both) (cut-log 6620 (1 ∷ []) ∷ [])
+
+pub four-below-next : 4 < cut-then .state .next
+unfolding pagesFor pageAt numberAt bytesOf markAt lengthAt idAt entryAt filled firstPage laterPage laterPages entryPages tooLong badState takeOf entryData some badEnd badBatch largeData someLarge wrote turn entriesFrom pushOf atWhole atStart walkBack recoverLog recoverOf anotherStore answer step run
+four-below-next = lit< tt
+
+pub four-stays-read : Answers cut-then 4 (present (four-reads-back .position) 1) (8 ∷ [])
+four-stays-read = four-reads-back .reads (cut-log 6620 (1 ∷ []) ∷ []) (lit≤ tt, tt) four-below-next
 
 -- the log cut without a push, in its last entry
 pub cut-in-three : RightCut (logOf begins) 3500 (recoverOf (take 3500 (logOf begins) ++ []) 3500)
@@ -470,7 +494,7 @@ fits-there : Fits other 4096
 unfolding pagesFor bytesOf filled firstPage laterPage laterPages entryPages
 fits-there = record { small = lit≤ tt; inside = lit≤ tt }
 
-same-from-there : drop 2048 (cutLog store 4096) ≡ drop 2048 (cutLog other 4096)
+same-from-there : drop 2048 (wholePages store 4096) ≡ drop 2048 (wholePages other 4096)
 unfolding pagesFor bytesOf filled firstPage laterPage laterPages entryPages
 same-from-there = refl
 

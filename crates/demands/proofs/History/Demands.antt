@@ -22,13 +22,13 @@ use Rattle.demands.proofs.Sound.{sound-length}
 use Rattle.demands.proofs.Last.{last-stored-greatest, last-stored-rises, last-stored-ready}
 use Rattle.demands.proofs.Push.Appending.{holds-kept}
 use Rattle.demands.proofs.Push.Places.{length-with, begins-with, sound-with, held-with}
-use Rattle.demands.proofs.Recovery.Resuming.{uncut, Resumed, recovered-resumes}
+use Rattle.demands.proofs.Recovery.Resuming.{no-excess, Resumed, recovered-resumes}
 use Rattle.demands.proofs.Recovery.Again.{recovered-good, recovered-again}
 use Rattle.demands.proofs.Recovery.Torn.{torn}
 use Rattle.demands.proofs.History.Lasting.{right-grows, standingData, data-grows, right-exact, right-answers}
-use Rattle.demands.proofs.History.Living.{Grows, Lives, Over}
+use Rattle.demands.proofs.History.Living.{Grows, Lives, Over, over-none, over-rises}
 use Rattle.demands.proofs.History.Cuts.{cut-full}
-use Rattle.demands.proofs.History.Moving.{Moved, lives-step, lives-run, over-run, moved-run}
+use Rattle.demands.proofs.History.Moving.{lives-step, lives-run, over-run, settled-run}
 
 -- ---- where a history begins
 
@@ -40,7 +40,7 @@ module _ (w : World) (b : Begun w) where
   resumed : Resumed (logOf w) (w .state)
   resumed =
       let n = w .state .length in
-      let e = uncut (w .store) n (good .whole) in
+      let e = no-excess (w .store) n (good .whole) in
       rw e at (recovered-resumes (w .store) n (w .state) 0 0 (rw e (b .sound)) (recovered-again (w .store) (b .size) (w .state) (b .excess) (b .dropped) (b .is)))
 
   pub begun-lives : Lives w
@@ -109,27 +109,27 @@ module _ (w v : World) (i : Lives w) (o : Over (logOf w) v) (id : ℕ) (h : Sett
   }
 
 -- after any calls that spare this world's log
-module _ (v : World) (i : Lives v) (id : ℕ) (h : Settled v id) (later : List Call) (spare : AllSpare (v .state .length) later) where
-  abbrev now : World
-  now = run v later
+module _ (v : World) (i : Lives v) (id : ℕ) (h : Settled v id) where
+  abbrev first : World → Type 0
+  first w = Keeps w id (standsIn v id) (standingData (logOf v) (standsIn v id))
 
-  moves : Moved v now
-  moves = moved-run v i later spare
+  kept-from : (w : World) → Over (logOf v) w → Settled w id → (later : List Call) → AllSpare (v .state .length) later → first (run w later)
+  kept-from w o k later spare = let r = settled-run v i id h w o k later spare in kept-answer v (run w later) i (r .0) id h (r .1)
 
-  pub kept-later : Keeps now id (standsIn v id) (standingData (logOf v) (standsIn v id))
-  kept-later = kept-answer v now i (moves .over) id h (moves .settled id h)
+  pub kept-later : (later : List Call) → AllSpare (v .state .length) later → first (run v later)
+  kept-later = kept-from v (over-none v i) h
 
-  -- and after a cut then that recovery answers with 9
-  pub kept-full : (n : ℕ) (rest : List ℕ) → v .state .length ≤ n → recoverOf (keptOf now n ++ rest) (length (keptOf now n)) ≡ refused 9 0 → id < topId
-      → KeepsFull now n rest id (standsIn v id) (standingData (logOf v) (standsIn v id))
-  kept-full n rest l e below =
-      let f = cut-full (logOf v) (i .good .sound) now (moves .over) n (rw (sound-length (i .good)) l) rest e in
-      let g = f .over .grows in
-      let rises = last-stored-rises (logOf v) (g .more) (rw (g .is) at (f .over .lives .good .sound)) (v .state .last) topId (i .last) (rw (g .is) at (f .over .lives .last)) in
+  -- and after a cut then that recovery answers with 9, with a state that the caller makes up
+  pub kept-full : (later : List Call) → AllSpare (v .state .length) later → (n : ℕ) (rest : List ℕ) → v .state .length ≤ n
+      → recoverOf (keptOf (run v later) n ++ rest) (length (keptOf (run v later) n)) ≡ refused 9 0 → id < topId
+      → KeepsFull (run v later) n rest id (standsIn v id) (standingData (logOf v) (standsIn v id)) (v .state .length)
+  kept-full later spare n rest l e below =
+      let o = settled-run v i id h v (over-none v i) h later spare .0 in
+      let f = cut-full (logOf v) (i .good .sound) (run v later) o n (rw (sound-length (i .good)) l) rest e in
       record {
         left = f .left;
         is-left = f .is-left;
-        keeps = kept-answer v _ i (f .over) id h (record { some = h .some; most = omega (arith, h .most, rises); below = below });
+        keeps = kept-from _ (f .over) (record { some = h .some; most = omega (arith, h .most, over-rises v i (f .over)); below = below });
       }
 
 -- ---- every call of a history
@@ -173,7 +173,7 @@ settled-in-words w b earlier id s =
     let v = run w earlier in
     let i = lives-run w (begun-lives w b) earlier in
     let h = from-stored v i id s in
-    (settled w b earlier id h, λ later spare. let m = moved-run v i later spare in to-stored (run v later) (m .over .lives) id (m .settled id h))
+    (settled w b earlier id h, λ later spare. let r = settled-run v i id h v (over-none v i) h later spare in to-stored (run v later) (r .0 .lives) id (r .1))
 
 -- ---- reading back
 

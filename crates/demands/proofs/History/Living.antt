@@ -6,6 +6,7 @@ use native.Mathlib.Omega.{arith}
 use lib.ListN.{length, length-append}
 use Rattle.demands.specs.Sound.{SoundStore, LastStored}
 use Rattle.demands.specs.History.{World, logOf}
+use Rattle.demands.proofs.Last.{last-stored-rises}
 
 -- ---- a log that grew
 
@@ -13,7 +14,7 @@ pub record Grows (log later : List ℕ) : Type 0 where
   pub more : List ℕ
   pub is : later ≡ log ++ more
 
-pub grows-none : (log : List ℕ) → Grows log log
+grows-none : (log : List ℕ) → Grows log log
 grows-none log = record { more = []; is = sym (append-nil log) }
 
 pub grows-then : {a b c : List ℕ} → Grows a b → Grows b c → Grows a c
@@ -33,3 +34,10 @@ pub record Lives (w : World) : Type 0 where
 pub record Over (base : List ℕ) (w : World) : Type 0 where
   pub lives : Lives w
   pub grows : Grows base (logOf w)
+
+pub over-none : (w : World) → Lives w → Over (logOf w) w
+over-none w i = record { lives = i; grows = grows-none (logOf w) }
+
+-- last written is at or above that of the world over whose log it stands
+pub over-rises : (v : World) → Lives v → {w : World} → Over (logOf v) w → v .state .last ≤ w .state .last
+over-rises v i o = last-stored-rises (logOf v) (o .grows .more) (rw (o .grows .is) at (o .lives .good .sound)) _ _ (i .last) (rw (o .grows .is) at (o .lives .last))

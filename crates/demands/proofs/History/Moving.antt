@@ -24,24 +24,21 @@ use Rattle.demands.proofs.Sound.{sound-good, sound-length}
 use Rattle.demands.proofs.Last.{last-stored-unique, last-stored-rises, last-stored-ready}
 use Rattle.demands.proofs.Push.Batch.{push-grows, push-right, push-last-stored}
 use Rattle.demands.proofs.Front.{sound-front}
-use Rattle.demands.proofs.Recovery.Resuming.{uncut, recover-right, by-recovery}
-use Rattle.demands.proofs.History.Living.{grows-none, grows-then, Lives, Over}
+use Rattle.demands.proofs.Recovery.Resuming.{no-excess, recover-right, by-recovery}
+use Rattle.demands.proofs.History.Living.{grows-then, Lives, Over, over-none, over-rises}
 use Rattle.demands.proofs.History.Cuts.{CutLeaves, not-gone-on, gone-on, cut-leaves}
 
--- ---- a world after another: it stands over that one's log, and every id settled there is settled here
+-- ---- what one call leaves: it stands over the log before it, and every id settled there is settled here
 
 pub record Moved (w v : World) : Type 0 where
   pub over : Over (logOf w) v
   pub settled : (id : ℕ) → Settled w id → Settled v id
 
-pub moved-none : (w : World) → Lives w → Moved w w
-moved-none w i = record { over = record { lives = i; grows = grows-none (logOf w) }; settled = λ id h. h }
+moved-none : (w : World) → Lives w → Moved w w
+moved-none w i = record { over = over-none w i; settled = λ id h. h }
 
 over-then : {base : List ℕ} {w v : World} → Over base w → Moved w v → Over base v
 over-then o m = record { lives = m .over .lives; grows = grows-then (o .grows) (m .over .grows) }
-
-moved-then : {w v u : World} → Moved w v → Moved v u → Moved w u
-moved-then m n = record { over = over-then (m .over) n; settled = λ id h. n .settled id (m .settled id h) }
 
 -- ---- one call that is no cut
 
@@ -92,7 +89,7 @@ module _ (w : World) (i : Lives w) where
   -- a recovery at the log's current length
   recovery-right : RightRecovery (logOf w) (excessOf (w .state .length)) 0 (recoverOf (w .store) (w .state .length))
   recovery-right =
-      let e = uncut (w .store) (w .state .length) (sound-good (i .good) .whole) in
+      let e = no-excess (w .store) (w .state .length) (sound-good (i .good) .whole) in
       rw e at (recover-right (w .store) (w .state .length) (i .good .fits) (rw e (i .good .sound)))
 
   moved-lent : (rest : List ℕ) → Moved w (world (anotherStore w rest) (w .state))
@@ -141,30 +138,29 @@ module _ (base : List ℕ) (sound : Sound base) where
   over-run w o [] spare = o
   over-run w o (c ∷ cs) spare = over-run (step w c) (over-step w o c (spare .0)) cs (spare .1)
 
-module _ (v : World) (i : Lives v) where
+-- an id that was settled over that log, from any world in which it still is
+module _ (v : World) (i : Lives v) (id : ℕ) (h : Settled v id) where
   size : length (logOf v) ≡ v .state .length
   size = sound-length (i .good)
 
   -- a recovered state has a last id at or above that of the front, and next is one more
-  moved-cut : {w u : World} → Moved v w → CutLeaves (logOf v) w u → Moved v u
-  moved-cut m not-gone-on = m
-  moved-cut m (gone-on u o next) =
-      let rises = last-stored-rises (logOf v) (o .grows .more) (rw (o .grows .is) at (o .lives .good .sound)) (v .state .last) _ (i .last) (rw (o .grows .is) at (o .lives .last)) in
-      record { over = o; settled = λ id h. record { some = h .some; most = omega (arith, h .most, rises); below = omega (arith, h .most, rises, next) } }
+  cut-settled : {w u : World} → Settled w id → CutLeaves (logOf v) w u → Settled u id
+  cut-settled k not-gone-on = k
+  cut-settled k (gone-on u o next) =
+      let rises = over-rises v i o in
+      record { some = h .some; most = omega (arith, h .most, rises); below = omega (arith, h .most, rises, next) }
 
-  moved-step : (w : World) → Moved v w → (c : Call) → Spares (v .state .length) c → Moved v (step w c)
-  moved-step w m c spares = ⊎-elim
-      (moved-then m)
-      (λ k. rw (k .is) (moved-cut m (cut-leaves (logOf v) (i .good .sound) w (m .over) (k .bytes) (rw (k .is, ← size) at spares) (k .rest))))
-      (moved w (m .over .lives) c)
+  settled-step : (w : World) → Over (logOf v) w → Settled w id → (c : Call) → Spares (v .state .length) c → Settled (step w c) id
+  settled-step w o k c spares = ⊎-elim
+      (λ m. m .settled id k)
+      (λ j. rw (j .is) (cut-settled k (cut-leaves (logOf v) (i .good .sound) w o (j .bytes) (rw (j .is, ← size) at spares) (j .rest))))
+      (moved w (o .lives) c)
 
-  moved-from : (w : World) → Moved v w → (cs : List Call) → AllSpare (v .state .length) cs → Moved v (run w cs)
+  pub settled-run : (w : World) → Over (logOf v) w → Settled w id → (cs : List Call) → AllSpare (v .state .length) cs → Over (logOf v) (run w cs) × Settled (run w cs) id
   unfolding run
-  moved-from w m [] spare = m
-  moved-from w m (c ∷ cs) spare = moved-from (step w c) (moved-step w m c (spare .0)) cs (spare .1)
-
-  pub moved-run : (cs : List Call) → AllSpare (v .state .length) cs → Moved v (run v cs)
-  moved-run = moved-from v (moved-none v i)
+  settled-run w o k [] spare = (o, k)
+  settled-run w o k (c ∷ cs) spare =
+      settled-run (step w c) (over-step (logOf v) (i .good .sound) w o c (rw size (spare .0))) (settled-step w o k c (spare .0)) cs (spare .1)
 
 -- ---- any calls, whatever is cut
 

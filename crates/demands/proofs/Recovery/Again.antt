@@ -1,22 +1,25 @@
--- On any bytes: what is left, dropped and cut off adds up, and recovery of what is left gives the same state and drops nothing. Assumes nothing.
+-- On any bytes: what is left, dropped and cut off adds up; recovery of what is left gives the same state and drops nothing; and the entry at which it ended stands apart. Assumes nothing.
 use Prim.Native.Nat.{ℕ, zero, suc, _+_, _-_, _*_, _≤_, _<_}
 use mathlib.Core.Path.{_≡_, refl, sym, ap, _∙_}
-use mathlib.Core.Logic.{⊎-elim}
+use mathlib.Core.Logic.{_⊎_, inl, inr, ⊎-elim}
 use mathlib.Core.List.{List}
 use lib.ListN.{length, take}
 use lib.Seq.{take-take}
 use native.Mathlib.Omega.{arith}
 use Rattle.refusal.proofs.Cases.{same-or-not, side}
-use Rattle.page.specs.Size.{pageSize, pageCount}
+use Rattle.page.specs.Size.{pageSize, pagesFor, pageCount}
 use Rattle.page.specs.Mark.{markAt}
-use Rattle.page.specs.Entry.{Starting, short, cut, whole, entryAt}
+use Rattle.page.specs.Entry.{Starting, short, cut, whole, idAt, afterAt, entryAt}
 use Rattle.page.proofs.Marking.{mark-cases}
+use Rattle.page.proofs.Starting.{is-whole}
 use Rattle.log.specs.Bounds.{Fits, Good}
 use Rattle.log.specs.State.{fresh, recoveredAt, topId}
-use Rattle.log.specs.Recovery.{recovered, refused, atWhole, firstPages, walkBack, excessOf, cutLog, recoverLog, recoverOf}
+use Rattle.log.specs.Recovery.{recovered, refused, atWhole, firstPages, walkBack, excessOf, wholePages, recoverLog, recoverOf}
 use Rattle.log.specs.declared.state.State.{State}
 use Rattle.log.proofs.Laws.Bounds.{not-too-long, length-log}
-use Rattle.log.proofs.Laws.Recovery.Steps.{whole-used, whole-goes-on, back-later, back-bad, back-short, back-cut, back-whole, back-fresh, back-none, length-first, count-first, first-first, all-pages, recover-cut}
+use Rattle.log.proofs.Laws.Recovery.Steps.{whole-used, whole-goes-on, back-later, back-bad, back-short, back-cut, back-whole, back-fresh, back-none, length-first, count-first, first-first, all-pages, from-last, recover-cut}
+use Rattle.demands.specs.Recovery.{Apart, EndedAt}
+use Rattle.demands.proofs.Front.{mark-front, length-front, id-front}
 use Rattle.demands.proofs.Recovery.Resuming.{recovered-fits}
 
 -- no refusal is a state
@@ -32,6 +35,7 @@ module _ (log : List ℕ) (pages excess : ℕ) (st : State) (said dropped : ℕ)
     pub told : said ≡ excess
     pub gone : dropped ≡ pages - left
     pub again : recoverLog (firstPages log left) 0 ≡ recovered st 0 0
+    pub ended : (left ≡ 0) ⊎ EndedAt log st
 
   module _ (left : ℕ) (inside : left ≤ pageCount log) where
     abbrev front : List ℕ
@@ -44,10 +48,23 @@ module _ (log : List ℕ) (pages excess : ℕ) (st : State) (said dropped : ℕ)
         back-later left e front (q + k) (q + suc k) (omega arith) (clear (q + k) (omega arith) (omega arith))
         ∙ passed e k q (λ p l b. clear p l (omega arith))
 
+    -- a whole entry after whose start no other starts in what is left
+    apart-there : (p : ℕ) → p < left → ((i : ℕ) → suc p ≤ i → i < left → markAt front i ≡ 0) → markAt front p ≡ 1 → (id len after : ℕ) → entryAt front p ≡ whole id len after → Apart log p
+    apart-there p below clear m id len after h =
+        let w = is-whole h in
+        let ends : afterAt log p ≤ left = omega (arith, w .within, w .after-is, count-first log left inside, ap pagesFor (length-front log left inside p below)) in
+        record {
+          start = record { inside = omega arith; marked = mark-front log left inside p below ∙ m };
+          before = λ q k l. ⊎-elim
+              (λ b. absurd (let z = clear q (omega arith) b in omega (arith, mark-front log left inside q b, k .marked, z)))
+              (λ b. omega (arith, ends, b))
+              (side q left);
+          within = omega (arith, ends, inside);
+        }
+
     -- the walk stopped at the whole entry at page p
     stops : (p : ℕ) → p < left → ((i : ℕ) → suc p ≤ i → i < left → markAt front i ≡ 0) → markAt front p ≡ 1 → (id len after : ℕ) → entryAt front p ≡ whole id len after
         → atWhole (length front) id excess (pages - pageCount front) ≡ recovered st said dropped → Same
-    unfolding recoverLog
     stops p below clear m id len after h e = ⊎-elim
         (λ u. absurd (not-refused st said dropped 9 0 (whole-used (length front) id excess (pages - pageCount front) u ∙ e)))
         (λ u.
@@ -64,13 +81,17 @@ module _ (log : List ℕ) (pages excess : ℕ) (st : State) (said dropped : ℕ)
           size = ap (λ (s : State). s .length) (sym state-is) ∙ length-first log left inside;
           told = cc;
           gone = (let g : dropped ≡ pages - pageCount front = cc in rw count at g);
-          again = rw count (walked ∙ back-whole left 0 front p (suc p) refl m id len after h ∙ ap (atWhole (length front) id 0) none ∙ sym (whole-goes-on (length front) id 0 0 u st (sym state-is)));
+          again = from-last front 0 ∙ (rw count (walked ∙ back-whole left 0 front p (suc p) refl m id len after h ∙ ap (atWhole (length front) id 0) none ∙ sym (whole-goes-on (length front) id 0 0 u st (sym state-is))));
+          ended = inr (record {
+            page = p;
+            apart = apart-there p below clear m id len after h;
+            has = id-front log left inside p below ∙ sym (is-whole h .id-is) ∙ ap (λ (s : State). s .last) state-is;
+          });
         })
         (same-or-not id topId)
 
   same-from : (q left : ℕ) (inside : left ≤ pageCount log) → q ≤ left → ((p : ℕ) → q ≤ p → p < left → markAt (firstPages log left) p ≡ 0)
       → walkBack pages excess (firstPages log left) q ≡ recovered st said dropped → Same
-  unfolding recoverLog
   same-from zero left inside l clear e = ⊎-elim
       (λ z.
       let is = sym (back-fresh pages excess (firstPages log left) 0 refl z) ∙ e in
@@ -82,7 +103,8 @@ module _ (log : List ℕ) (pages excess : ℕ) (st : State) (said dropped : ℕ)
         size = ap (λ (s : State). s .length) (sym state-is) ∙ omega (arith, n);
         told = cc;
         gone = (let g : dropped ≡ pages = cc in omega (arith, n));
-        again = rw z (back-fresh 0 0 (firstPages log left) 0 refl z ∙ ap (λ (s : State). recovered s 0 0) state-is);
+        ended = inl (omega (arith, n, z));
+        again = from-last (firstPages log left) 0 ∙ (rw z (back-fresh 0 0 (firstPages log left) 0 refl z ∙ ap (λ (s : State). recovered s 0 0) state-is));
       })
       (λ some. absurd (not-refused st said dropped 8 0 (sym (back-none pages excess (firstPages log left) 0 refl some) ∙ e)))
       (same-or-not (pageCount (firstPages log left)) 0)
@@ -105,15 +127,14 @@ module _ (log : List ℕ) (pages excess : ℕ) (st : State) (said dropped : ℕ)
 
 -- from the last page of all
 same-all : (log : List ℕ) (excess : ℕ) (st : State) (said dropped : ℕ) → firstPages log (pageCount log) ≡ log → recoverLog log excess ≡ recovered st said dropped → Same log (pageCount log) excess st said dropped
-unfolding recoverLog
-same-all log excess st said dropped all e = same-from log (pageCount log) excess st said dropped (pageCount log) (pageCount log) (omega arith) (omega arith) (λ p a b. absurd (omega arith)) (rw all e)
+same-all log excess st said dropped all e = same-from log (pageCount log) excess st said dropped (pageCount log) (pageCount log) (omega arith) (omega arith) (λ p a b. absurd (omega arith)) (rw all (sym (from-last log excess) ∙ e))
 
 module _ (store : List ℕ) (n : ℕ) (st : State) (excess dropped : ℕ) (e : recoverOf store n ≡ recovered st excess dropped) where
   abbrev w : ℕ
   w = n - excessOf n
 
   abbrev log : List ℕ
-  log = cutLog store n
+  log = wholePages store n
 
   f : Fits store n
   f = recovered-fits store n st excess dropped e
@@ -144,3 +165,8 @@ module _ (store : List ℕ) (n : ℕ) (st : State) (excess dropped : ℕ) (e : r
       let front : take (st .length) store ≡ firstPages log (s .left) = rw (← s .size) (sym (take-take (st .length) w store inside)) in
       sym (recover-cut store (st .length) (not-too-long store (st .length) (g .fits)) (st .length) (sym there) (omega (arith, g .whole)))
       ∙ (rw (none, front) (s .again))
+
+  -- ---- THEOREM: no entry that starts later lies inside the one at which recovery ended
+
+  pub recovered-apart : (st .length ≡ 0) ⊎ EndedAt log st
+  recovered-apart = ⊎-elim (λ z. inl (omega (arith, s .size, z))) inr (s .ended)

@@ -1,5 +1,5 @@
 -- A sound log of which only the first pages are there: what is left of it is sound, and recovery gives that. Assumes nothing.
-use Prim.Native.Nat.{ℕ, zero, suc, _+_, _-_, _*_, _/_, _≤_, _<_}
+use Prim.Native.Nat.{ℕ, zero, suc, _-_, _*_, _/_, _≤_, _<_}
 use mathlib.Core.Path.{_≡_, refl, sym, ap, _∙_}
 use mathlib.Core.Logic.{inl, inr, ⊎-elim}
 use mathlib.Core.List.{List, _++_}
@@ -15,7 +15,7 @@ use Rattle.log.specs.Bounds.{Fits}
 use Rattle.log.specs.State.{topId}
 use Rattle.log.specs.Recovery.{Recovering, atWhole, firstPages, walkBack, excessOf, recoverLog, recoverOf}
 use Rattle.log.proofs.Laws.Bounds.{not-too-long}
-use Rattle.log.proofs.Laws.Recovery.Steps.{whole-used, whole-goes-on, back-later, back-cut, back-whole, back-fresh, length-first, count-first, first-first, recover-cut}
+use Rattle.log.proofs.Laws.Recovery.Steps.{whole-used, whole-goes-on, back-later, back-cut, back-whole, back-fresh, length-first, count-first, first-first, from-last, recover-cut}
 use Rattle.demands.specs.Sound.{Start, Sound, Last}
 use Rattle.demands.proofs.Front.{mark-front, length-front, start-front, front-start, Closed, sound-front}
 use Rattle.demands.specs.Recovery.{RightRecovery, empty, used-up, goes-on, Left, RightCut}
@@ -172,7 +172,6 @@ module _ (log : List ℕ) (s : Sound log) (m : ℕ) (inside : m ≤ pageCount lo
 -- ---- THEOREM: a sound log that is cut at any byte: some first bytes of it, and anything after them
 
 pub cut-right : (kept more rest : List ℕ) → Sound (kept ++ more) → Fits (kept ++ rest) (length kept) → RightCut (kept ++ more) (length kept) (recoverOf (kept ++ rest) (length kept))
-unfolding recoverLog
 cut-right kept more rest s f =
     let n = length kept in
     let m = n / pageSize in
@@ -186,7 +185,7 @@ cut-right kept more rest s f =
       left = e .left;
       is-left = e .is-left;
       sound = e .sound;
-      right = rw (← is, count-first (kept ++ more) m inside) (e .right);
+      right = rw (← is, from-last front (excessOf n), count-first (kept ++ more) m inside) (e .right);
     }
 
 pub cut-at-byte : (log : List ℕ) → Sound log → (n : ℕ) → n ≤ length log → (rest : List ℕ) → Fits (take n log ++ rest) n → RightCut log n (recoverOf (take n log ++ rest) n)

@@ -11,28 +11,27 @@ use Rattle.page.specs.Size.{pageSize, pageCount}
 use Rattle.page.specs.Entry.{idAt}
 use Rattle.log.specs.Bounds.{Fits, tooLong}
 use Rattle.log.specs.State.{fresh, recoveredAt}
-use Rattle.log.specs.Recovery.{Recovering, recovered, refused, excessOf, cutLog, recoverLog, recoverOf}
+use Rattle.log.specs.Recovery.{Recovering, recovered, refused, excessOf, wholePages, recoverLog, recoverOf}
 use Rattle.log.specs.declared.state.State.{State}
 use Rattle.log.proofs.Laws.Bounds.{fitting, not-too-long, length-log}
-use Rattle.log.proofs.Laws.Recovery.Steps.{all-pages, recover-bad, recover-cut}
+use Rattle.log.proofs.Laws.Recovery.Steps.{all-pages, from-last, recover-bad, recover-cut}
 use Rattle.demands.specs.Sound.{Sound, LastStored, nothing-stored, last-entry}
 use Rattle.demands.specs.Recovery.{RightRecovery, empty, used-up, goes-on}
 use Rattle.demands.proofs.Recovery.Cutting.{right-closed}
 
 -- a length of whole pages has no excess
-pub uncut : (store : List ℕ) (n : ℕ) → n % pageSize ≡ 0 → cutLog store n ≡ take n store
-uncut store n w = let e : n - excessOf n ≡ n = omega arith in rw e
+pub no-excess : (store : List ℕ) (n : ℕ) → n % pageSize ≡ 0 → wholePages store n ≡ take n store
+no-excess store n w = let e : n - excessOf n ≡ n = omega arith in rw e
 
 -- ---- THEOREM: recovery of any length, where the log that is left after the excess was cut off is sound
 
-pub recover-right : (store : List ℕ) (n : ℕ) → Fits store n → Sound (cutLog store n) → RightRecovery (cutLog store n) (excessOf n) 0 (recoverOf store n)
-unfolding recoverLog
+pub recover-right : (store : List ℕ) (n : ℕ) → Fits store n → Sound (wholePages store n) → RightRecovery (wholePages store n) (excessOf n) 0 (recoverOf store n)
 recover-right store n f s =
-    let log = cutLog store n in
+    let log = wholePages store n in
     let m = pageCount log in
     let size = length-log store (n - excessOf n) (omega (arith, f .inside)) in
     let none : m - m ≡ 0 = omega arith in
-    rw (← recover-cut store n (not-too-long store n f) (n - excessOf n) (sym size) refl)
+    rw (← recover-cut store n (not-too-long store n f) (n - excessOf n) (sym size) refl, from-last log (excessOf n))
     (rw (all-pages log m refl (s .pages), none) at (right-closed log s m (omega arith) m (excessOf n) (λ p h l. s .within p h)))
 
 -- a recovery that is not refused had a store and a length in bounds
@@ -57,9 +56,9 @@ by-recovery P nine on r (empty z) = on fresh (record { size = sym z; last = noth
 by-recovery P nine on r (used-up p l u) = nine
 by-recovery {log} P nine on r (goes-on p l u) = on (recoveredAt (length log) (idAt log p)) (record { size = refl; last = last-entry p l refl; next = refl })
 
-pub recovered-resumes : (store : List ℕ) (n : ℕ) (st : State) (excess dropped : ℕ) → Sound (cutLog store n) → recoverOf store n ≡ recovered st excess dropped → Resumed (cutLog store n) st
+pub recovered-resumes : (store : List ℕ) (n : ℕ) (st : State) (excess dropped : ℕ) → Sound (wholePages store n) → recoverOf store n ≡ recovered st excess dropped → Resumed (wholePages store n) st
 recovered-resumes store n st excess dropped s e =
-    by-recovery (λ r. r ≡ recovered st excess dropped → Resumed (cutLog store n) st)
+    by-recovery (λ r. r ≡ recovered st excess dropped → Resumed (wholePages store n) st)
     (λ f. absurd (let z : _≡_ {A = ℕ} 0 1 = cc in omega arith))
     (λ st′ h f. let g : st ≡ st′ = cc in rw g h)
     (recoverOf store n) (recover-right store n (recovered-fits store n st excess dropped e) s) e

@@ -1,6 +1,6 @@
 -- The steps of recovery, as the code takes them. Assumes nothing.
 use Prim.Native.Nat.{ℕ, suc, _-_, _*_, _%_, _≤_, _<_}
-use mathlib.Core.Path.{_≡_, sym, ap, _∙_}
+use mathlib.Core.Path.{_≡_, refl, sym, ap, _∙_}
 use mathlib.Core.Bool.{true, false}
 use mathlib.Core.List.{List}
 use lib.ListN.{length, take, drop, take-append-drop}
@@ -90,6 +90,11 @@ module _ (log : List ℕ) (p : ℕ) (inside : p ≤ pageCount log) where
 pub all-pages : (log : List ℕ) (p : ℕ) → p ≡ pageCount log → length log % pageSize ≡ 0 → firstPages log p ≡ log
 all-pages log p e w = take-all (p * pageSize) log (omega arith)
 
+-- recovery of a log is the walk from its last page
+pub from-last : (log : List ℕ) (excess : ℕ) → recoverLog log excess ≡ walkBack (pageCount log) excess log (pageCount log)
+unfolding recoverLog
+from-last log excess = refl
+
 -- ---- the loop of the walk: from here on it comes to what it comes to from the last page
 
 pub record BackLoop (log : List ℕ) (excess left q : ℕ) : Type 0 where
@@ -98,8 +103,7 @@ pub record BackLoop (log : List ℕ) (excess left q : ℕ) : Type 0 where
   pub same : walkBack (pageCount log) excess (firstPages log left) q ≡ recoverLog log excess
 
 pub back-begins : (log : List ℕ) (excess left q : ℕ) → left ≡ pageCount log → q ≡ pageCount log → length log % pageSize ≡ 0 → BackLoop log excess left q
-unfolding recoverLog
-back-begins log excess left q a b w = record { most = omega arith; inside = omega arith; same = rw (all-pages log left a w, b) }
+back-begins log excess left q a b w = record { most = omega arith; inside = omega arith; same = rw (all-pages log left a w, b) (sym (from-last log excess)) }
 
 module _ (log : List ℕ) (excess left q : ℕ) (b : BackLoop log excess left q) where
   -- a page s of those still to be looked at is in a part of w bytes that has all that is left
