@@ -42,7 +42,7 @@ pub record RightCut (log : List ℕ) (n : ℕ) (r : Recovering) : Type 0 where
 
 -- ---- a cut in a push
 
--- 11.7 "If that log is cut at any byte from its length before the push on": at byte n; the store then, and what recovery answers there
+-- 11.7 "the log is then cut at any byte from its length before the push on": at byte n; the store then, and what recovery answers there
 pub record Torn (q : Push) (n : ℕ) (store : List ℕ) (r : Recovering) : Type 0 where
   pub kept : ℕ
   pub counted : kept ≤ outcome q .answer .written

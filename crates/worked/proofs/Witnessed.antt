@@ -53,7 +53,8 @@ use Rattle.scanning.specs.Step.{stepStart, stepPage, forward, forwardFrom, step
 use Rattle.log.specs.declared.state.State.{State}
 use Rattle.scanning.specs.declared.Range.{Range}
 use Rattle.scanning.specs.declared.End.the-variants.{Open}
-use Rattle.demands.specs.History.{World, world, logOf, Words, Call, push, take-id, find, lookup, lend, cut-log, anotherStore, answer, step, run, said, AllSpare, Begun, Settled, SettledByStored, LooksUp, Gives, Answers, KeepsFull, ReadsBack}
+use Rattle.demands.specs.History.{World, world, logOf, Words, Call, push, take-id, find, lookup, lend, cut-log}
+use Rattle.demands.specs.History.{anotherStore, answer, step, run, said, AllSpare, Begun, Settled, SettledByStored, LooksUp, Gives, Answers, KeepsFull, ReadsBack}
 use Rattle.page.proofs.Runs.{data-one-part}
 use Rattle.demands.proofs.Check.Passing.{checked-sound}
 use Rattle.demands.proofs.Push.Batch.{push-right, push-last-stored, push-whole}

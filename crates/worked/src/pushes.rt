@@ -127,6 +127,13 @@ name push 1 with 2037 bytes
 long 4096 - - 1 - - 2037 - -
 untouched
 verify 2037
+name push (1, hello) from the fresh state
+entries 0 0 hello 1 - - 5 - -
+name   then 2 with a payload of 3000 bytes
+long 4096 - - 2 - - 2992 - -
+check 4096 3500   cut at byte 3500
+check 4096 2047   cut at byte 2047
+check 4096 1023   cut at byte 1023
 ",
     );
     thousand();

@@ -19,7 +19,7 @@ use Rattle.demands.specs.Lookup.{Standing, present, standing, RightStand
 use Rattle.demands.specs.History.{World, logOf, Words, Call, push, pushing, keptOf, step, answer, run, Said, said, AllSpare, Begun, Settled, SettledByStored, Answer, Gives, Answers, Keeps, KeepsFull, KeepsFirst, ReadsBack}
 use Rattle.demands.proofs.Lookup.Right.{find-right, find-stored, right-unique}
 use Rattle.demands.proofs.Sound.{sound-length}
-use Rattle.demands.proofs.Last.{last-stored-greatest, last-stored-rises, last-stored-ready}
+use Rattle.demands.proofs.Last.{last-stored-greatest, last-stored-ready}
 use Rattle.demands.proofs.Push.Appending.{holds-kept}
 use Rattle.demands.proofs.Push.Places.{length-with, begins-with, sound-with, held-with}
 use Rattle.demands.proofs.Recovery.Resuming.{no-excess, Resumed, recovered-resumes}

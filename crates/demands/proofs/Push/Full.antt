@@ -4,7 +4,7 @@ use mathlib.Core.Path.{_≡_, refl}
 use mathlib.Core.List.{List}
 use lib.ListN.{length}
 use native.Mathlib.Omega.{arith}
-use Rattle.log.specs.State.{stateOf, topId, Taking, refused, takeOf}
+use Rattle.log.specs.State.{stateOf, topId, refused, takeOf}
 use Rattle.pushing.specs.Push.{Point, point, Done, entriesFrom, pushOf}
 use Rattle.demands.specs.History.{Words}
 use Rattle.demands.proofs.Push.Ways.{by-batch, by-turn}

@@ -9,7 +9,7 @@ use native.Mathlib.Omega.{arith}
 use Rattle.refusal.proofs.Cases.{same-or-not, side}
 use Rattle.page.specs.Size.{pageSize, pagesFor, pageCount}
 use Rattle.page.specs.Mark.{markAt}
-use Rattle.page.specs.Entry.{Starting, short, cut, whole, idAt, afterAt, entryAt}
+use Rattle.page.specs.Entry.{Starting, short, cut, whole, afterAt, entryAt}
 use Rattle.page.proofs.Marking.{mark-cases}
 use Rattle.page.proofs.Starting.{is-whole}
 use Rattle.log.specs.Bounds.{Fits, Good}

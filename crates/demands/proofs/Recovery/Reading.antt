@@ -14,7 +14,7 @@ use Rattle.page.proofs.Paging.{page-from}
 use Rattle.page.proofs.Reading.{mark-same, entry-same}
 use Rattle.page.proofs.Starting.{is-cut}
 use Rattle.log.specs.Bounds.{Fits}
-use Rattle.log.specs.Recovery.{atWhole, firstPages, walkBack, excessOf, wholePages, recoverLog, recoverOf}
+use Rattle.log.specs.Recovery.{atWhole, firstPages, walkBack, excessOf, wholePages, recoverOf}
 use Rattle.log.proofs.Laws.Bounds.{not-too-long, length-log}
 use Rattle.log.proofs.Laws.Recovery.Steps.{back-later, back-bad, back-short, back-cut, back-whole, length-first, count-first, first-first, page-first, all-pages, from-last, recover-cut}
 use Rattle.demands.specs.Sound.{Start, Sound}

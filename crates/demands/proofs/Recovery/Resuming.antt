@@ -11,7 +11,7 @@ use Rattle.page.specs.Size.{pageSize, pageCount}
 use Rattle.page.specs.Entry.{idAt}
 use Rattle.log.specs.Bounds.{Fits, tooLong}
 use Rattle.log.specs.State.{fresh, recoveredAt}
-use Rattle.log.specs.Recovery.{Recovering, recovered, refused, excessOf, wholePages, recoverLog, recoverOf}
+use Rattle.log.specs.Recovery.{Recovering, recovered, refused, excessOf, wholePages, recoverOf}
 use Rattle.log.specs.declared.state.State.{State}
 use Rattle.log.proofs.Laws.Bounds.{fitting, not-too-long, length-log}
 use Rattle.log.proofs.Laws.Recovery.Steps.{all-pages, from-last, recover-bad, recover-cut}

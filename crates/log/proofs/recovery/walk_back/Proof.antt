@@ -44,7 +44,8 @@ enum-told-2 c = c .match2 .keys1
 returns : tie.Need-returns Inv-loop μ-loop
 returns c =
     ends-short _ _ _ _ (c .before .before .before .before .before .before .before .before .loop .inv) _ (omega arith)
-    (is-start _ (sym (c .before .before .before .before .before .before .read .ensures) ∙ c .before .before .before .before .enum-told .given .1)) _ (slice-aggregate-read (c .before .before .before)) (omega arith) _ (omega arith)
+    (is-start _ (sym (c .before .before .before .before .before .before .read .ensures) ∙ c .before .before .before .before .enum-told .given .1))
+    _ (slice-aggregate-read (c .before .before .before)) (omega arith) _ (omega arith)
     (sym (c .before .before .read2 .ensures) ∙ ap paperEntry (c .enum-told2 .given .1)) _ (omega arith)
 
 enum-told-3 : tie.Need-enum-told-3 Inv-loop μ-loop
@@ -56,7 +57,8 @@ loop-less c = omega arith
 loop-again : tie.Need-loop-again Inv-loop μ-loop
 loop-again c =
     drops-cut _ _ _ _ (c .before .before .before .before .before .before .before .before .loop .inv) _ (omega arith)
-    (is-start _ (sym (c .before .before .before .before .before .before .read .ensures) ∙ c .before .before .before .before .enum-told .given .1)) _ (slice-aggregate-read (c .before .before .before)) (omega arith) _ (omega arith)
+    (is-start _ (sym (c .before .before .before .before .before .before .read .ensures) ∙ c .before .before .before .before .enum-told .given .1))
+    _ (slice-aggregate-read (c .before .before .before)) (omega arith) _ (omega arith)
     _ (sym (c .before .before .read2 .ensures) ∙ ap paperEntry (c .enum-told3 .given .1)) _ (omega arith)
 
 enum-known-entry : tie.Need-enum-known-entry Inv-loop μ-loop
@@ -75,7 +77,8 @@ returns-2 : tie.Need-returns-2 Inv-loop μ-loop
 returns-2 c =
     c .at-whole .ensures
     ∙ ends-whole _ _ _ _ (c .before .before .before .before .before .before .before .before .before .before .loop .inv) _ (omega arith)
-    (is-start _ (sym (c .before .before .before .before .before .before .before .before .read .ensures) ∙ c .before .before .before .before .before .before .enum-told .given .1)) _ (slice-aggregate-read (c .before .before .before .before .before)) (omega arith) _ (omega arith)
+    (is-start _ (sym (c .before .before .before .before .before .before .before .before .read .ensures) ∙ c .before .before .before .before .before .before .enum-told .given .1))
+    _ (slice-aggregate-read (c .before .before .before .before .before)) (omega arith) _ (omega arith)
     _ _ _ (sym (c .before .before .before .before .read2 .ensures) ∙ ap paperEntry (c .before .before .entry .given .1)) _ (omega arith) _ (omega arith)
 
 enum-told-4 : tie.Need-enum-told-4 Inv-loop μ-loop
