@@ -2,7 +2,7 @@ use std::{fmt, io, path::Path};
 
 use crate::{
     disk::{Disk, Locked},
-    log::new_store,
+    log::{test_store, zeros},
     CutOff, Entry, Log, PushRefused, Refusal,
 };
 
@@ -52,9 +52,20 @@ pub struct LogFile {
 
 impl LogFile {
     /// Opens a log, or makes an empty one, for a store of so many bytes, or of as many as the file has if those are
-    /// more. Recovers it, and cuts off the file's end what a crash in the middle of a write left there, an entry that is
-    /// not whole: see [`LogFile::cut_off`]. A file that is no log is refused and left alone. A second opening at the
-    /// same time is an error, and so is a disk that does not sync.
+    /// more. Recovers it, and cuts off the file's end what a crash in the middle of a write left there, an entry that
+    /// is not whole: see [`LogFile::cut_off`]. Entries of a push that did not return may be there, the first ones that
+    /// are whole.
+    ///
+    /// What the library refuses is left alone. It does not refuse everything that is no log: less than a page, or pages
+    /// all of whose starts are cut, is a torn log with no whole entry, and the file is emptied. Nor can it tell damage
+    /// from a cut: a length or a mark that was changed in the last entry may make it look cut (docs/RULES.md 12.8), and
+    /// then the entry is dropped and cut off the file. So look at [`LogFile::cut_off`]: where no crash explains it, it
+    /// is a sign of damage. What a disk may leave of bytes that were not synced and not kept in order: 12.7.
+    ///
+    /// The file and its name are synced first, and a disk that does not sync is an error. One thing is passed over: a
+    /// file that was there already, in a folder that this process may search but not read, and so not sync; whoever made
+    /// the file had to sync its name. Errors too: the log is open already, here or elsewhere; the path leads to
+    /// something other than a regular file, such as a device; there is no memory for the store.
     pub fn open(path: impl AsRef<Path>, capacity: usize) -> Result<LogFile, Error> {
         LogFile::open_on(Box::new(Locked::open(path.as_ref())?), capacity)
     }
@@ -65,8 +76,12 @@ impl LogFile {
         disk.sync()?;
         disk.sync_name()?;
         let length = disk.length()?;
-        // A file that is too long for a store is not read at all.
-        let mut store = new_store(capacity.max(length as usize))?;
+        // A file that is too long for a store, or for the memory that there is, is not read at all.
+        let mut store = usize::try_from(length)
+            .ok()
+            .and_then(|length| zeros(capacity.max(length)))
+            .ok_or_else(|| io::Error::new(io::ErrorKind::OutOfMemory, "no memory for a store as long as the log"))?;
+        test_store(&store)?;
         disk.read(&mut store[..length as usize])?;
         let (log, cut_off) = Log::recover(store, length)?;
         if cut_off.bytes() > 0 {
@@ -81,17 +96,19 @@ impl LogFile {
     ///
     /// If the file cannot be written or synced, the error is [`Error::Io`], and the log answers as it did before the
     /// push, from what the disk is known to have; ids that were taken stay taken. The file is cut back to that as well,
-    /// if the disk lets it, and no push is taken until the log is opened again. Once the cut is synced, nothing of the
-    /// batch is left. Otherwise the opening may find the first entries of it that are whole, none or some or all, and
-    /// drops one that is cut. Their ids are above the last written, so that nothing settled changes either way.
+    /// if the disk lets it. This `LogFile` then takes no push any more: drop it, as it holds the file's lock, and open
+    /// the log again. Once the cut is synced, nothing of the batch is left. Otherwise the opening may find the first
+    /// entries of it that are whole, none or some or all, and drops one that is cut. Their ids are above the last
+    /// written, so that nothing settled changes either way.
     ///
-    /// One thing no opening can see: after a failed sync Linux may let a later one return though the disk never got the
-    /// bytes. If the cut failed too, the log that is opened again then answers entries of the batch that a power failure
-    /// can still take away, or leave zeros in place of. It is the same if a process is stopped before its sync and the
-    /// sync of the next opening fails: there nobody knows where to cut. See that the disk is well before you open again.
+    /// One thing no opening can see: after a failed sync Linux may let a later one return though the disk never got
+    /// the bytes. If the cut failed too, the log that is opened again then answers entries of the batch that a power
+    /// failure can still take away, or leave zeros in place of. It is the same if a process is stopped before its sync
+    /// and the sync of the next opening fails: there nobody knows where to cut. See that the disk is well before you
+    /// open again.
     pub fn push(&mut self, entries: &[Entry]) -> Result<(), Error> {
         if self.failed {
-            return Err(io::Error::other("an earlier push failed: open the log again").into());
+            return Err(io::Error::other("an earlier push failed: drop this log, then open the log again").into());
         }
         let before = self.log.state();
         let pushed = self.log.push(entries);

@@ -1,4 +1,7 @@
-use std::ops::RangeBounds;
+use std::{
+    alloc::{alloc_zeroed, Layout},
+    ops::RangeBounds,
+};
 
 use crate::{ffi, lent, Look, Recovered, Refusal, State, Step};
 
@@ -16,8 +19,8 @@ impl Entry {
 }
 
 /// A push that was refused. The entries before the refused one were written and stay. After [`Refusal::TooLarge`] and
-/// [`Refusal::NoRoom`] the refused one and those after it keep their ids, and can be pushed again, as long as the log is
-/// open: one that is opened again knows nothing of ids above the last stored.
+/// [`Refusal::NoRoom`] the refused one and those after it keep their ids, and can be pushed again, as long as the log
+/// is open: one that is opened again knows nothing of ids above the last stored.
 #[derive(Clone, Copy, Debug, PartialEq, Eq)]
 pub struct PushRefused {
     pub refusal: Refusal,
@@ -83,7 +86,8 @@ impl Log {
     /// wherever Rust asks for memory.
     pub fn grow(&mut self, capacity: usize) -> Result<(), Refusal> {
         if capacity > self.store.len() {
-            let mut store = new_store(capacity)?;
+            let mut store = vec![0; capacity];
+            test_store(&store)?;
             store[..self.bytes().len()].copy_from_slice(self.bytes());
             self.store = store;
         }
@@ -155,11 +159,21 @@ impl Log {
     }
 }
 
-/// A store of so many zeros, if the library does not refuse one so long.
-pub(crate) fn new_store(capacity: usize) -> Result<Vec<u8>, Refusal> {
-    let store = vec![0; capacity];
-    lent::find(&store, State::fresh(), 0)?; // tests the store's size, and reads no page
-    Ok(store)
+/// Refuses a store that is too long for the library, which alone knows how long one may be.
+pub(crate) fn test_store(store: &[u8]) -> Result<(), Refusal> {
+    lent::find(store, State::fresh(), 0).map(|_| ()) // tests the store's size, and reads no page
+}
+
+/// So many zeros, as `vec!` makes them, which touches no page of them; or none, where `vec!` would stop the program for
+/// want of memory.
+pub(crate) fn zeros(bytes: usize) -> Option<Vec<u8>> {
+    let layout = Layout::array::<u8>(bytes).ok()?;
+    if bytes == 0 {
+        return Some(Vec::new());
+    }
+    let memory = unsafe { alloc_zeroed(layout) };
+    // Of the global allocator, with the layout that a vector of this capacity has, and every byte of it is set.
+    (!memory.is_null()).then(|| unsafe { Vec::from_raw_parts(memory, bytes, bytes) })
 }
 
 /// Calls with a buffer, and once more with a larger one where the library says how large.

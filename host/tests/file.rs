@@ -1,8 +1,12 @@
 //! The log in a file: what is written, synced, cut and refused; and the example's story. What a disk can do to it that
 //! no test can make a real one do is in src/crashes.rs.
 use std::{
-    env, fs, io,
-    os::unix::process::ExitStatusExt,
+    env, fs,
+    io::{self, Write},
+    os::unix::{
+        fs::{chown, MetadataExt, PermissionsExt},
+        process::{CommandExt, ExitStatusExt},
+    },
     path::{Path, PathBuf},
     process::{Command, Output},
 };
@@ -31,6 +35,11 @@ impl Drop for Scratch {
     fn drop(&mut self) {
         self.remove();
     }
+}
+
+/// Says that a part of a test was left out, past the harness, which keeps what a passing test prints to itself.
+fn left_out(what: &str) {
+    writeln!(io::stderr(), "LEFT OUT: {what}").unwrap();
 }
 
 /// Names the log of a test that runs itself again in a process of its own.
@@ -70,17 +79,36 @@ impl Recorder {
         Recorder { folder, list, library, _scratch: scratch }
     }
 
-    /// Runs a test again, and says what it asked of the disk.
-    fn run_again(&self, test: &str, log: &Path, first: &str) -> String {
+    /// Runs a test again: how it ended, and what it asked of the disk. For the variable see record.c.
+    fn run(&self, test: &str, log: &Path, first: &str, variable: (&str, &str)) -> (Output, String) {
         let _ = fs::remove_file(&self.list);
-        let variables =
-            [("LD_PRELOAD", &*self.library), ("RECORD_FOLDER", &*self.folder), ("RECORD_LIST", &*self.list)];
+        let variables = [
+            ("LD_PRELOAD", &*self.library),
+            ("RECORD_FOLDER", &*self.folder),
+            ("RECORD_LIST", &*self.list),
+            (variable.0, Path::new(variable.1)),
+        ];
         let ran = run_again(test, log, first, &variables);
-        let said = String::from_utf8_lossy(&ran.stdout);
-        assert!(ran.status.success(), "{said}{}", String::from_utf8_lossy(&ran.stderr));
-        assert!(said.contains("1 passed"));
-        fs::read_to_string(&self.list).unwrap()
+        (ran, fs::read_to_string(&self.list).unwrap())
     }
+
+    /// Runs a test again, which passes, and says what it asked of the disk.
+    fn run_again(&self, test: &str, log: &Path, first: &str) -> String {
+        self.run_failing(test, log, first, "nothing")
+    }
+
+    /// The same, where one thing that it asks for fails.
+    fn run_failing(&self, test: &str, log: &Path, first: &str, fails: &str) -> String {
+        let (ran, asked) = self.run(test, log, first, ("RECORD_FAILS", fails));
+        assert_passed(&ran);
+        asked
+    }
+}
+
+fn assert_passed(ran: &Output) {
+    let said = String::from_utf8_lossy(&ran.stdout);
+    assert!(ran.status.success(), "{said}{}", String::from_utf8_lossy(&ran.stderr));
+    assert!(said.contains("1 passed"));
 }
 
 #[test]
@@ -231,7 +259,8 @@ fn without_a_limit(path: &Path, beyond: u64) {
     assert_eq!(entries_of(&again), [&settled()[..], &[long]].concat());
 }
 
-/// A write that the limit stops with an error: the log answers what it has, and the file is cut back to that and synced.
+/// A write that the limit stops with an error: the log answers what it has, and the file is cut back to that and
+/// synced.
 #[test]
 fn an_entry_stopped_by_a_file_size_limit_is_cut_back() {
     if let Some(path) = own_process() {
@@ -264,8 +293,8 @@ fn an_entry_stopped_by_a_file_size_limit_is_cut_back() {
     without_a_limit(&log, 0);
 }
 
-/// A process that is killed in the middle of a write, here by the limit's signal: nobody cuts back what it wrote, and the
-/// next opening drops it.
+/// A process that is killed in the middle of a write, here by the limit's signal: nobody cuts back what it wrote, and
+/// the next opening drops it.
 #[test]
 fn an_entry_whose_writer_was_killed_is_dropped() {
     if let Some(path) = own_process() {
@@ -274,17 +303,19 @@ fn an_entry_whose_writer_was_killed_is_dropped() {
         let _ = log.push(&[long(3)]);
         return;
     }
-    let path = Scratch::new("killed");
-    let test = "an_entry_whose_writer_was_killed_is_dropped";
-    let ran = run_again(test, &path.0, &format!("ulimit -c 0; {LIMIT}"), &[]);
+    let recorder = Recorder::new("killed");
+    let log = recorder.folder.join("log");
+    let (test, first) = ("an_entry_whose_writer_was_killed_is_dropped", format!("ulimit -c 0; {LIMIT}"));
+    let (ran, asked) = recorder.run(test, &log, &first, ("RECORD_SIGXFSZ", "kills"));
     assert_eq!(ran.status.signal(), Some(25)); // SIGXFSZ
-    let beyond = fs::metadata(&path.0).unwrap().len() - 2048;
+    assert_eq!(asked, "sync /log\nsync \nwrite /log\nsync /log\nwrite /log\nwrite /log\n");
+    let beyond = fs::metadata(&log).unwrap().len() - 2048;
     assert!([2_560, 7_168].contains(&beyond));
-    without_a_limit(&path.0, beyond);
+    without_a_limit(&log, beyond);
 }
 
-/// The real file's own syncs, in their order: at an opening of the file and of the folder that it is in, after a cut, and
-/// after each push.
+/// The real file's own syncs, in their order: at an opening of the file and of the folder that it is in, after a cut,
+/// and after each push.
 #[test]
 fn the_file_and_its_folder_are_synced() {
     if let Some(path) = own_process() {
@@ -306,12 +337,104 @@ fn the_file_and_its_folder_are_synced() {
     assert_eq!(recorded(), format!("sync /log\nsync \n{push}{push}"));
 }
 
+/// An opening fails where the file, its folder or the file that was cut is not synced, and nothing more is asked then.
 #[test]
-fn a_log_that_is_no_log_is_refused_and_left_alone() {
+fn a_disk_that_does_not_sync_is_not_opened() {
+    if let Some(path) = own_process() {
+        match LogFile::open(&path, CAPACITY) {
+            Err(Error::Io(error)) => {
+                let of_the_folder = error.to_string().contains("the folder that the log is in could not be synced");
+                assert_eq!(of_the_folder, env::var_os("RECORD_FAILS").unwrap() == "sync ");
+            }
+            other => panic!("{other:?}"),
+        }
+        return;
+    }
+    let recorder = Recorder::new("unsynced");
+    let log = recorder.folder.join("log");
+    let asked = |fails| recorder.run_failing("a_disk_that_does_not_sync_is_not_opened", &log, "", fails);
+    for there in [false, true] {
+        assert_eq!(asked("sync /log"), "sync /log\n");
+        if !there {
+            fs::remove_file(&log).unwrap();
+        }
+        assert_eq!(asked("sync "), "sync /log\nsync \n");
+    }
+    fs::write(&log, [1; 1023]).unwrap();
+    assert_eq!(asked("cut /log"), "sync /log\nsync \ncut /log\n");
+    assert_eq!(fs::metadata(&log).unwrap().len(), 1023);
+}
+
+/// For a process that modes bind: if this is root's, one of another user's.
+#[test]
+fn a_folder_that_may_not_be_read() {
+    if let Some(path) = own_process() {
+        let mut log = LogFile::open(&path, CAPACITY).unwrap();
+        assert_eq!(entries_of(&log), settled());
+        log.push(&[Entry::new(3, "three")]).unwrap();
+        match LogFile::open(path.with_file_name("new"), CAPACITY) {
+            Err(Error::Io(error)) => {
+                assert_eq!(error.kind(), io::ErrorKind::PermissionDenied);
+                assert!(error.to_string().contains("the folder that the log is in could not be synced"), "{error}");
+            }
+            other => panic!("{other:?}"),
+        }
+        return;
+    }
+    const NOBODY: u32 = 65_534;
+    let scratch = Scratch::new("unread");
+    let folder = scratch.0.join("folder");
+    let log = folder.join("log");
+    let set_mode = |path: &Path, mode| fs::set_permissions(path, fs::Permissions::from_mode(mode)).unwrap();
+    fs::create_dir_all(&folder).unwrap();
+    set_mode(&scratch.0, 0o755);
+    LogFile::open(&log, CAPACITY).unwrap().push(&settled()).unwrap();
+    let mut again = Command::new(env::current_exe().unwrap());
+    again.args(["--exact", "a_folder_that_may_not_be_read"]).env(OWN_PROCESS, &log);
+    if fs::metadata("/proc/self").unwrap().uid() == 0 {
+        for path in [&folder, &log] {
+            chown(path, Some(NOBODY), None).unwrap();
+        }
+        again.uid(NOBODY);
+    }
+    set_mode(&folder, 0o300);
+    let ran = again.output();
+    set_mode(&folder, 0o700);
+    match ran {
+        Ok(ran) => {
+            assert_passed(&ran);
+            assert_eq!(fs::metadata(&log).unwrap().len(), 3072);
+        }
+        Err(error) => left_out(&format!("a folder that may not be read: as another user than root: {error}")),
+    }
+}
+
+/// Nothing of what is no file is locked, synced or written.
+#[test]
+fn what_is_no_regular_file_is_not_opened() {
+    let pipe = Scratch::new("pipe");
+    assert!(Command::new("mkfifo").arg(&pipe.0).status().unwrap().success());
+    for path in [Path::new("/dev/full"), Path::new("/dev/null"), &pipe.0] {
+        match LogFile::open(path, CAPACITY) {
+            Err(Error::Io(error)) => {
+                assert_eq!(error.kind(), io::ErrorKind::InvalidInput);
+                assert!(error.to_string().contains("regular file"), "{}: {error}", path.display());
+            }
+            other => panic!("{other:?}"),
+        }
+    }
+}
+
+#[test]
+fn what_the_library_refuses_is_left_alone() {
     let path = Scratch::new("none");
-    for (bytes, refusal) in
-        [(vec![9; 2048], Refusal::BadMark { page: 1 }), (vec![0; 2048], Refusal::NoEntries { page: 0 })]
-    {
+    let mut short = vec![1; 2048];
+    short[1024..1028].copy_from_slice(&[1, 0, 0, 7]);
+    for (bytes, refusal) in [
+        (vec![9; 2048], Refusal::BadMark { page: 1 }),
+        (vec![0; 2048], Refusal::NoEntries { page: 0 }),
+        (short, Refusal::ShortEntry { page: 1 }),
+    ] {
         fs::write(&path.0, &bytes).unwrap();
         match LogFile::open(&path.0, CAPACITY) {
             Err(Error::Refused(r)) => assert_eq!(r, refusal),
@@ -319,6 +442,44 @@ fn a_log_that_is_no_log_is_refused_and_left_alone() {
         }
         assert_eq!(fs::read(&path.0).unwrap(), bytes);
     }
+}
+
+/// No log, and yet not to be told from a torn one of which no entry is whole: it is opened, and the file is emptied.
+#[test]
+fn what_has_no_whole_entry_is_a_torn_log_and_is_emptied() {
+    let path = Scratch::new("emptied");
+    let mut long = vec![0; 4096];
+    long[..2].copy_from_slice(&[1, 0xFF]);
+    for (bytes, excess, dropped) in [
+        (b"no log at all\n".to_vec(), 14, 0),
+        (vec![9; 1023], 1023, 0),
+        (vec![1; 8192], 0, 8), // each page a start of 65,793 bytes
+        (vec![1; 2500], 452, 2),
+        (long, 0, 4), // a start of 16,711,680 bytes
+    ] {
+        fs::write(&path.0, &bytes).unwrap();
+        let log = LogFile::open(&path.0, CAPACITY).unwrap();
+        assert_eq!((log.log().state(), log.cut_off()), (State::fresh(), CutOff { excess, dropped }));
+        assert_eq!(log.cut_off().bytes(), bytes.len() as u64);
+        assert_eq!(fs::metadata(&path.0).unwrap().len(), 0);
+    }
+}
+
+/// One bit of the last entry's length, and the entry is taken for a cut one: what was cut off tells of it, no more.
+#[test]
+fn damage_to_the_last_length_is_reported_as_cut_off() {
+    let path = Scratch::new("damaged");
+    let entries = [Entry::new(1, "one"), Entry::new(2, "two"), Entry::new(3, "three")];
+    LogFile::open(&path.0, CAPACITY).unwrap().push(&entries).unwrap();
+    let mut bytes = fs::read(&path.0).unwrap();
+    assert_eq!((bytes.len(), &bytes[2048..2052]), (3072, &[1, 0, 0, 13][..]));
+    bytes[2050] ^= 4; // 1,037 bytes of payload, so two pages
+    fs::write(&path.0, &bytes).unwrap();
+    let log = LogFile::open(&path.0, CAPACITY).unwrap();
+    assert_eq!(log.log().state(), State { length: 2048, last: 2, next: 3 });
+    assert_eq!(log.cut_off(), CutOff { excess: 0, dropped: 1 });
+    assert_eq!(entries_of(&log), entries[..2]);
+    assert_eq!(fs::read(&path.0).unwrap(), bytes[..2048]);
 }
 
 /// The capacity is what a log has at least: a file that grew beyond it is opened whole.
@@ -344,17 +505,32 @@ fn a_file_longer_than_any_store_is_refused_and_left_alone() {
     assert_eq!(fs::metadata(&path.0).unwrap().len(), (1 << 31) + 1);
 }
 
+/// As long as no memory is: an error, whichever of the two says it first, and the program goes on.
+#[test]
+fn a_file_longer_than_memory_is_an_error_and_left_alone() {
+    const LENGTH: u64 = 4 << 40;
+    let path = Scratch::new("endless");
+    if let Err(error) = fs::File::create(&path.0).unwrap().set_len(LENGTH) {
+        return left_out(&format!("a file of 4 TiB: {error}"));
+    }
+    match LogFile::open(&path.0, CAPACITY) {
+        Err(Error::Io(error)) => assert_eq!(error.kind(), io::ErrorKind::OutOfMemory),
+        Err(Error::Refused(refusal)) => assert_eq!(refusal, Refusal::BadState),
+        other => panic!("{other:?}"),
+    }
+    assert_eq!(fs::metadata(&path.0).unwrap().len(), LENGTH);
+    fs::remove_file(&path.0).unwrap();
+    match LogFile::open(&path.0, usize::MAX) {
+        Err(Error::Io(error)) => assert_eq!(error.kind(), io::ErrorKind::OutOfMemory),
+        other => panic!("{other:?}"),
+    }
+}
+
 #[test]
 fn one_writer_at_a_time() {
     let path = Scratch::new("lock");
     let _first = LogFile::open(&path.0, CAPACITY).unwrap();
     assert!(matches!(LogFile::open(&path.0, CAPACITY), Err(Error::Io(_))));
-}
-
-/// /dev/full is no file, and no sync is to be had of it.
-#[test]
-fn a_disk_that_does_not_sync_is_not_opened() {
-    assert!(matches!(LogFile::open("/dev/full", CAPACITY), Err(Error::Io(_))));
 }
 
 #[test]

@@ -1,45 +1,56 @@
 /* Preloaded into a test's process on Linux: notes each write, cut and sync of the files in a folder, in order, and then
- * makes it. The folder and the list are named by the environment. */
+ * makes it. The environment names the folder and the list; in RECORD_FAILS it may have a line of the list, such as
+ * "sync /log": then what is noted so is not made, and fails. With RECORD_SIGXFSZ a write beyond the limit of a file's
+ * size kills the process, also if it was started by one that ignores that signal. */
 #define _GNU_SOURCE
+#include <errno.h>
 #include <fcntl.h>
+#include <signal.h>
 #include <stdio.h>
 #include <stdlib.h>
 #include <string.h>
 #include <sys/syscall.h>
 #include <unistd.h>
 
-static void note(const char *call, int file)
+__attribute__((constructor)) static void begin(void)
+{
+    if (getenv("RECORD_SIGXFSZ"))
+        signal(SIGXFSZ, SIG_DFL);
+}
+
+/* Whether the call is to fail. */
+static int note(const char *call, int file)
 {
     char link[64], name[4096], line[5000];
-    const char *folder = getenv("RECORD_FOLDER"), *list = getenv("RECORD_LIST");
+    const char *folder = getenv("RECORD_FOLDER"), *list = getenv("RECORD_LIST"), *fails = getenv("RECORD_FAILS");
     snprintf(link, sizeof link, "/proc/self/fd/%d", file);
     ssize_t length = readlink(link, name, sizeof name - 1);
     if (!folder || !list || length < 0)
-        return;
+        return 0;
     name[length] = 0;
     if (strncmp(name, folder, strlen(folder)) != 0)
-        return;
+        return 0;
     int out = open(list, O_WRONLY | O_APPEND | O_CREAT, 0600);
     int bytes = snprintf(line, sizeof line, "%s %s\n", call, name + strlen(folder));
     if (syscall(SYS_write, out, line, (size_t)bytes) != bytes)
         abort();
     close(out);
+    line[bytes - 1] = 0;
+    errno = EIO;
+    return fails && strcmp(line, fails) == 0;
 }
 
 ssize_t write(int file, const void *bytes, size_t count)
 {
-    note("write", file);
-    return syscall(SYS_write, file, bytes, count);
+    return note("write", file) ? -1 : syscall(SYS_write, file, bytes, count);
 }
 
 int ftruncate64(int file, off64_t length)
 {
-    note("cut", file);
-    return (int)syscall(SYS_ftruncate, file, length);
+    return note("cut", file) ? -1 : (int)syscall(SYS_ftruncate, file, length);
 }
 
 int fsync(int file)
 {
-    note("sync", file);
-    return (int)syscall(SYS_fsync, file);
+    return note("sync", file) ? -1 : (int)syscall(SYS_fsync, file);
 }
