@@ -1,5 +1,5 @@
 //! The worked cases of docs/RULES.md 13, through the safe types.
-use awirbesh::{lent, CutOff, Entry, IdSequence, Log, Look, Refusal, State};
+use awirbesh::{lent, CutOff, Entry, IdSequence, Log, Look, Recovered, Refusal, State};
 
 const PAGE: usize = 1024;
 
@@ -180,6 +180,24 @@ fn recovery_drops_an_entry_that_is_cut() {
 
     let (none, cut_off) = Log::recover(log.bytes()[1024..].to_vec(), 2 * 1024).unwrap();
     assert_eq!((none.state(), cut_off), (State::fresh(), CutOff { excess: 0, dropped: 2 }));
+}
+
+#[test]
+fn two_entries_cut_at_three_places() {
+    let mut log = Log::with_capacity(4_096);
+    log.push(&[Entry::new(1, "hello"), Entry::new(2, [7; 2_992])]).unwrap();
+    assert_eq!(log.state(), State { length: 4_096, last: 2, next: 1 });
+    for (cut, excess, dropped, state) in [
+        (4_096, 0, 0, State { length: 4_096, last: 2, next: 3 }),
+        (3_500, 428, 2, State { length: 1_024, last: 1, next: 2 }),
+        (2_047, 1_023, 0, State { length: 1_024, last: 1, next: 2 }),
+        (1_023, 1_023, 0, State { length: 0, last: 0, next: 1 }),
+    ] {
+        assert_eq!(lent::recover(log.bytes(), cut), Ok(Recovered { state, excess, dropped }), "cut at {cut}");
+        let (left, cut_off) = Log::recover(log.bytes()[..cut as usize].to_vec(), cut).unwrap();
+        assert_eq!((left.state(), cut_off), (state, CutOff { excess, dropped }), "cut at {cut}");
+        assert_eq!(left.get(1).unwrap().as_deref(), (cut > 1_023).then_some(&b"hello"[..]), "cut at {cut}");
+    }
 }
 
 /// Not what one crash leaves: a cut entry, and after it another.

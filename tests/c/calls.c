@@ -512,8 +512,8 @@ static const torn torn_logs[] = {
      {0, 0, 1023, 4, {1024, 4, 5}}},
     {"a whole start between two cut ones", {{2044, 4}, {8, 6}, {1021, 7}}, 3, 3072, {0, 0, 0, 1, {2048, 6, 7}}},
     {"ids are not compared", {{8, 9}, {8, 0}, {1021, 7}}, 3, 3072, {0, 0, 0, 1, {2048, 0, 1}}},
-    {"seven starts, all dropped", {{1021, 1}, {1021, 2}, {1021, 3}, {1021, 4}, {1021, 5}, {1021, 6}, {1021, 7}}, 7, 7168,
-     {0, 0, 0, 7, {0, 0, 1}}},
+    {"seven starts, all dropped", {{1021, 1}, {1021, 2}, {1021, 3}, {1021, 4}, {1021, 5}, {1021, 6}, {1021, 7}}, 7,
+     7168, {0, 0, 0, 7, {0, 0, 1}}},
     /* the last id of all, met after a drop; in a cut entry it is dropped with it */
     {"9 after a drop", {{8, 4}, {8, UINT64_MAX}, {1021, 7}}, 3, 3072, {9, 0, 0, 0, {0, 0, 0}}},
     {"9 after a drop, with an excess", {{8, UINT64_MAX}, {1021, 7}, {0, 0}}, 3, 2500, {9, 0, 0, 0, {0, 0, 0}}},
@@ -532,6 +532,26 @@ static void same_recovery(const char *what, awirbesh_recovered r, awirbesh_recov
     same(what, r.excess, expected.excess);
     same(what, r.dropped, expected.dropped);
     same_state(what, r.state, expected.state.length, expected.state.last, expected.state.next);
+}
+
+/* Rule 13.9: (1, "hello") and id 2 with a payload of 3,000 bytes, four pages, whole and cut at three places. */
+static void two_entries_that_are_cut(void)
+{
+    static uint8_t store[4096], data[2997];
+    const uint64_t ids[2] = {1, 2}, ends[2] = {5, 2997};
+    memset(data, 7, sizeof data);
+    memcpy(data, "hello", 5);
+    awirbesh_pushed p = awirbesh_push(store, 4096, awirbesh_fresh(), ids, 2, ends, 2, data, 2997);
+    same("two to be cut", p.number, 0);
+    same("two to be cut, written", p.written, 2);
+    same_state("two to be cut", p.state, 4096, 2, 1);
+    same_recovery("two, whole", awirbesh_recover(store, 4096, 4096), (awirbesh_recovered){0, 0, 0, 0, {4096, 2, 3}});
+    same_recovery("two, cut at byte 3,500", awirbesh_recover(store, 4096, 3500),
+                  (awirbesh_recovered){0, 0, 428, 2, {1024, 1, 2}});
+    same_recovery("two, cut at byte 2,047", awirbesh_recover(store, 4096, 2047),
+                  (awirbesh_recovered){0, 0, 1023, 0, {1024, 1, 2}});
+    same_recovery("two, cut at byte 1,023", awirbesh_recover(store, 4096, 1023),
+                  (awirbesh_recovered){0, 0, 1023, 0, {0, 0, 1}});
 }
 
 static void logs_that_are_torn(void)
@@ -628,6 +648,7 @@ int main(void)
     two_entries();
     no_old_bytes_in_the_filling();
     refused_entries_keep_their_ids();
+    two_entries_that_are_cut();
     logs_that_are_torn();
     largest_store();
     sequences();

@@ -30,10 +30,14 @@ typedef struct {
 
 static const char *what;
 static uint64_t cut, cases;
+static uint64_t second = UINT64_MAX; /* the cut in what was pushed after the first one; this while there is none */
 
 static void stop(const char *why)
 {
-    printf("%s, cut at byte %llu: %s\n", what, (unsigned long long)cut, why);
+    printf("%s, cut at byte %llu", what, (unsigned long long)cut);
+    if (second != UINT64_MAX)
+        printf(", and after a push a second time at byte %llu", (unsigned long long)second);
+    printf(": %s\n", why);
     exit(1);
 }
 
@@ -169,9 +173,10 @@ static void go_on(const uint8_t *store, awirbesh_state state, held log, uint64_t
     must(memcmp(later + to, store + to, STORE - to) == 0, "a push changed bytes after its own");
     must(awirbesh_check(later, STORE, state.length).number == 0, "a log that was gone on with is not sound");
     look_up(later, state, &log, highest, cut % 5 == 0);
-    uint64_t second = from + cut * 7919 % (to - from + 1);
+    second = from + cut * 7919 % (to - from + 1);
     held left = left_by(&log, second);
     look_up(later, recover(later, &left, second), &left, highest, 0);
+    second = UINT64_MAX;
 }
 
 /* The store holds the whole log's bytes before the cut and others beyond it. */
