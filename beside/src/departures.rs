@@ -165,8 +165,8 @@ pub fn due_at_cut(pair: &Pair, at: u64) -> Option<Departure> {
     pair.cut_entry(at).map(|_| Departure::TornEntry)
 }
 
-/// Whether the Rust's answer to such a recovery is just what the departure says. In either case it has cut the excess off
-/// the file before it fails.
+/// Whether the Rust's answer to such a recovery is just what the departure says. In either case it has cut the excess
+/// off the file before it fails.
 pub fn is_at_cut(departure: Departure, at: u64, rust: &RecoveredBy) -> bool {
     let file = at - at % PAGE;
     match departure {
@@ -177,7 +177,7 @@ pub fn is_at_cut(departure: Departure, at: u64, rust: &RecoveredBy) -> bool {
         }
         // It takes a page off a length of 0: the difference overflows, or is a place past the file's end.
         Departure::PartPage if cfg!(debug_assertions) => {
-            *rust == RecoveredBy::Panicked("attempt to subtract with overflow".into())
+            *rust == RecoveredBy::Panicked { text: "attempt to subtract with overflow".into(), file }
         }
         Departure::PartPage => {
             let none = r#"DataIntegrity(Error { kind: Message("No entries found in an existing transaction log") })"#;
@@ -421,7 +421,7 @@ mod tests {
         let (ours, rust) = (at(2_048, 1, 2_048), end_of_file(4_096));
         assert_eq!(cut_said(4_500, &ours, &rust), Ok(1));
         let other = |text: &str| RecoveredBy::Refused(format!("{text}, file of 4096 bytes"));
-        let panic = RecoveredBy::Panicked("attempt to subtract with overflow".into());
+        let panic = RecoveredBy::Panicked { text: "attempt to subtract with overflow".into(), file: 4_096 };
         let others = [end_of_file(4_500), end_of_file(2_048), other("No entries found"), panic, at(4_096, 2, 4_096)];
         // What we answer is no departure either: the Rust does not answer it.
         for rust in others.iter().chain([&ours]) {

@@ -109,7 +109,11 @@ pub enum RecoveredBy {
         file: u64,
     },
     Refused(String),
-    Panicked(String),
+    /// What it said, and the bytes that the file then has.
+    Panicked {
+        text: String,
+        file: u64,
+    },
 }
 
 pub type Ids = (Bound<u64>, Bound<u64>);

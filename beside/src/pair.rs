@@ -252,8 +252,8 @@ impl Pair {
         self.held.iter().find(|held| (held.page + 1) * PAGE <= at && at < (held.page + held.pages) * PAGE)
     }
 
-    /// What the rules say of the log's first bytes: the entries that end before the cut, and the pages before it but for
-    /// those of a cut entry (docs/RULES.md 11.4).
+    /// What the rules say of the log's first bytes: the entries that end before the cut, and the pages before it but
+    /// for those of a cut entry (docs/RULES.md 11.4).
     pub fn left_by(&self, at: u64) -> State {
         let length = self.cut_entry(at).map_or(at - at % PAGE, |held| held.page * PAGE);
         let whole = |held: &&Held| (held.page + held.pages) * PAGE <= at;
@@ -280,8 +280,8 @@ impl Pair {
         tally.compared("recoveries of cut logs");
     }
 
-    /// Compares what the two sides answered to a recovery of the log's first bytes: ours must be what the rules say, and
-    /// the Rust's the same, or exactly what a departure says where one is due.
+    /// Compares what the two sides answered to a recovery of the log's first bytes: ours must be what the rules say,
+    /// and the Rust's the same, or exactly what a departure says where one is due.
     pub fn compare_recovered(&self, at: u64, by_ours: &RecoveredBy, by_rust: &RecoveredBy, tally: &mut Tally) {
         let input = || format!("{}; cut at {at}", self.words());
         let left = self.left_by(at);

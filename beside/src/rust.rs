@@ -146,6 +146,6 @@ pub fn recover(bytes: &[u8]) -> RecoveredBy {
             RecoveredBy::At { state: State { length, last, next }, file }
         }
         Ok(Err(error)) => RecoveredBy::Refused(format!("{}, file of {file} bytes", said(error))),
-        Err(panic) => RecoveredBy::Panicked(panic),
+        Err(text) => RecoveredBy::Panicked { text, file },
     }
 }

@@ -221,7 +221,9 @@ fn less_than_a_page() {
     let pair = log_of(&[(1, 8)], 2);
     for at in [1, 1_023] {
         match recovered(&pair, at, FRESH) {
-            RecoveredBy::Panicked(text) if CHECKED => assert_eq!(text, "attempt to subtract with overflow"),
+            RecoveredBy::Panicked { text, file } if CHECKED => {
+                assert_eq!((&*text, file), ("attempt to subtract with overflow", 0));
+            }
             RecoveredBy::Refused(text) if !CHECKED => {
                 assert!(text.contains("No entries found"), "{text}");
                 assert!(text.ends_with("file of 0 bytes"), "{text}");
@@ -241,7 +243,7 @@ fn the_last_id_recovered() {
     let bytes = pair.ours.bytes().to_vec();
     assert_eq!(lent::recover(&bytes, PAGE), Err(Refusal::IdsUsedUp));
     match rust::recover(&bytes) {
-        RecoveredBy::Panicked(text) if CHECKED => assert_eq!(text, "attempt to add with overflow"),
+        RecoveredBy::Panicked { text, .. } if CHECKED => assert_eq!(text, "attempt to add with overflow"),
         // It finds the log uninitialized: next is 0, which stands for that.
         RecoveredBy::At { state, .. } if !CHECKED => {
             assert_eq!(state, State { length: PAGE, last: u64::MAX, next: 0 });
