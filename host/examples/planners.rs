@@ -1,7 +1,7 @@
 //! Three query planners share one catalog log of the indexes that they really build. A what-if session takes an id
 //! as a build does, and drops it: nothing of it is stored. A build for which the log has no room goes in with the same
-//! id once there is more. Later a planner asks of each id which it was. At last the power fails in the middle of a write:
-//! the log opens again with all that was settled.
+//! id once there is more. Later a planner asks of each id which it was. At last the power fails in the middle of a
+//! write: the log opens again with all that was settled.
 //!
 //! `cargo run --example planners [FILE]`; without a file the log lies in the temporary folder and is removed.
 use std::{fs, path::PathBuf};

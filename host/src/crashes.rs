@@ -1,6 +1,8 @@
 //! What a log in a file promises of a disk that fails or loses power, over a simulated one: every operation in turn, and
-//! of what no sync has covered every cut. What is promised of a cut is promised of the first bytes that were written,
-//! however many; a disk that keeps later ones and not the earlier has a test of its own, which says what then holds.
+//! of what no sync has covered the first bytes, however many. A log's file is cut at every byte, and so is what a power
+//! failure leaves of a new one. Elsewhere it is the bytes of a page's first fields, its last byte, its end and each 97th
+//! byte, or, where the cut of a failed push fails too, each half of a page. A disk that keeps later bytes and not the
+//! earlier has a test of its own, which says what then holds.
 use crate::{
     disk::Disk,
     simulated::{Chance, Fault, Simulated},
@@ -284,8 +286,8 @@ fn what_cuts_a_failed_push_back_may_fail() {
     assert!(forgot > 0 && taken_back > 0, "what the comment tells of does not come up");
 }
 
-/// A process was stopped between its write and the sync, and the sync of the next opening fails and forgets. Nobody knows
-/// where to cut, so no more is promised than where a push could not be cut back.
+/// A process was stopped between its write and the sync, and the sync of the next opening fails and forgets. Nobody
+/// knows where to cut, so no more is promised than where a push could not be cut back.
 #[test]
 fn the_sync_of_an_opening_may_forget_what_another_wrote() {
     let told = Told { settled: vec![entry(1, 2)], attempted: vec![entry(2, 3), entry(3, 1)] };
@@ -319,9 +321,10 @@ fn the_power_may_fail_at_any_byte() {
     });
 }
 
-/// A disk that keeps any sectors of what no sync has covered, and zeros for the others, may keep an entry without all of
-/// its data: the library has no checksum and answers it. But it answers of no id that was not pushed, and what was
-/// settled stays: as soon as something was, the log opens and is sound. Before, page 0 may be lost, and that is refused.
+/// A disk that keeps any sectors of what no sync has covered, and zeros for the others, may keep an entry without all
+/// of its data: the library has no checksum and answers it. But it answers of no id that was not pushed, and what was
+/// settled stays: as soon as something was, the log opens and is sound. Before, page 0 may be lost, and that is
+/// refused.
 #[test]
 fn sectors_that_come_out_of_order_leave_what_was_settled() {
     let (mut without_page_0, mut without_data) = (0, 0);

@@ -38,9 +38,9 @@ impl Locked {
     pub(crate) fn open(path: &Path) -> io::Result<Locked> {
         let mut options = OpenOptions::new();
         options.read(true).write(true);
-        // A file that opens was there. One that does not is made here; if another process makes it in between, it counts
-        // as made here all the same, which is the stricter. (The other way round, `create_new` first, a link to a file
-        // that is yet to be made would be neither made nor there.)
+        // A file that opens was there. One that does not is made here; if another process makes it in between, it
+        // counts as made here all the same, which is the stricter. (The other way round, `create_new` first, a link to
+        // a file that is yet to be made would be neither made nor there.)
         let (file, made) = match options.open(path) {
             Err(error) if error.kind() == io::ErrorKind::NotFound => (options.create(true).open(path)?, true),
             opened => (opened?, false),
@@ -90,9 +90,9 @@ impl Disk for Locked {
 }
 
 /// Syncs a log's folder, for the file's name. A process may be let search a folder and not read it, and then it cannot
-/// sync it. A file that was there before is opened all the same: whoever made it had to sync its name, and an opening that
-/// makes a file fails if it cannot. (What that leaves, an empty file, a later opening cannot tell from one that was made
-/// well.) No other failure is passed over.
+/// sync it. A file that was there before is opened all the same: whoever made it had to sync its name, and an opening
+/// that makes a file fails if it cannot. (What that leaves, an empty file, a later opening cannot tell from one that was
+/// made well.) No other failure is passed over.
 fn sync_folder(opened: io::Result<File>, made: bool) -> io::Result<()> {
     match opened {
         Err(error) if error.kind() == io::ErrorKind::PermissionDenied && !made => Ok(()),

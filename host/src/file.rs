@@ -63,8 +63,8 @@ impl LogFile {
     /// is a sign of damage. What a disk may leave of bytes that were not synced and not kept in order: 12.7.
     ///
     /// The file and its name are synced first, and a disk that does not sync is an error. One thing is passed over: a
-    /// file that was there already, in a folder that this process may search but not read, and so not sync; whoever made
-    /// the file had to sync its name. Errors too: the log is open already, here or elsewhere; the path leads to
+    /// file that was there already, in a folder that this process may search but not read, and so not sync; whoever
+    /// made the file had to sync its name. Errors too: the log is open already, here or elsewhere; the path leads to
     /// something other than a regular file, such as a device; there is no memory for the store.
     pub fn open(path: impl AsRef<Path>, capacity: usize) -> Result<LogFile, Error> {
         LogFile::open_on(Box::new(Locked::open(path.as_ref())?), capacity)

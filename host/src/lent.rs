@@ -26,8 +26,8 @@ pub fn check(store: &[u8], length: u64) -> Result<(), Refusal> {
     Refusal::test(checked.number, checked.value)
 }
 
-/// What a recovery found: the state to go on with; the bytes of a part page, and before them the whole pages of an entry
-/// that a crash cut short, which the log ends before.
+/// What a recovery found: the state to go on with; the bytes of a part page, and before them the whole pages of an
+/// entry that a crash cut short, which the log ends before.
 #[derive(Clone, Copy, Debug, PartialEq, Eq)]
 pub struct Recovered {
     pub state: State,

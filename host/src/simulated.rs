@@ -27,7 +27,8 @@ impl Chance {
 /// What is to happen at one operation, counted from 0.
 #[derive(Clone, Copy, Debug)]
 pub(crate) enum Fault {
-    /// It fails after so many of its steps; they are in the file all the same. A sync has none: the next one covers all.
+    /// It fails after so many of its steps; they are in the file all the same. A sync has none: the next one covers
+    /// all.
     Fails { after: usize },
     /// A sync fails and forgets: of what it was to cover the disk has the first steps and no more, and no later sync
     /// covers the rest, though reads show it. So Linux does where it takes pages for clean that could not be written. A
@@ -169,8 +170,8 @@ impl Simulated {
         self.restart_with(self.after_steps(steps))
     }
 
-    /// The disk after a power failure that kept what was synced, and of the rest any sectors, in a file of the new length
-    /// or of one on the way to it. A sector that was not kept is as it was, or zeros where the file had none.
+    /// The disk after a power failure that kept what was synced, and of the rest any sectors, in a file of the new
+    /// length or of one on the way to it. A sector that was not kept is as it was, or zeros where the file had none.
     pub(crate) fn restart_with_sectors(&self, chance: &mut Chance) -> Simulated {
         let (mut file, new) = (self.after_steps(0), self.bytes());
         let between = file.len().min(new.len()) + chance.up_to(file.len().abs_diff(new.len()));
