@@ -39,7 +39,7 @@ impl Drop for Scratch {
 
 /// Says that a part of a test was left out, past the harness, which keeps what a passing test prints to itself.
 fn left_out(what: &str) {
-    writeln!(io::stderr(), "LEFT OUT: {what}").unwrap();
+    io::stderr().write_all(format!("LEFT OUT: {what}\n").as_bytes()).unwrap();
 }
 
 /// Names the log of a test that runs itself again in a process of its own.
@@ -138,6 +138,14 @@ fn a_refused_push_writes_what_came_before() {
     assert_eq!((refused.refusal, refused.written), (Refusal::OutOfOrder, 1));
     assert_eq!(fs::read(&path.0).unwrap(), log.log().bytes());
     assert_eq!(log.log().bytes().len(), 1024);
+}
+
+/// How an opening that is to fail for the file's sake does.
+fn io_error(opened: Result<LogFile, Error>) -> io::Error {
+    match opened {
+        Err(Error::Io(error)) => error,
+        other => panic!("{:?}", other.map(|log| log.log().state())),
+    }
 }
 
 /// A log of three entries in a store of two pages: the third is refused for room.
@@ -341,13 +349,9 @@ fn the_file_and_its_folder_are_synced() {
 #[test]
 fn a_disk_that_does_not_sync_is_not_opened() {
     if let Some(path) = own_process() {
-        match LogFile::open(&path, CAPACITY) {
-            Err(Error::Io(error)) => {
-                let of_the_folder = error.to_string().contains("the folder that the log is in could not be synced");
-                assert_eq!(of_the_folder, env::var_os("RECORD_FAILS").unwrap() == "sync ");
-            }
-            other => panic!("{other:?}"),
-        }
+        let said = io_error(LogFile::open(path, CAPACITY)).to_string();
+        let of_the_folder = env::var_os("RECORD_FAILS").unwrap() == "sync ";
+        assert_eq!(said.contains("the folder that the log is in could not be synced"), of_the_folder, "{said}");
         return;
     }
     let recorder = Recorder::new("unsynced");
@@ -372,13 +376,9 @@ fn a_folder_that_may_not_be_read() {
         let mut log = LogFile::open(&path, CAPACITY).unwrap();
         assert_eq!(entries_of(&log), settled());
         log.push(&[Entry::new(3, "three")]).unwrap();
-        match LogFile::open(path.with_file_name("new"), CAPACITY) {
-            Err(Error::Io(error)) => {
-                assert_eq!(error.kind(), io::ErrorKind::PermissionDenied);
-                assert!(error.to_string().contains("the folder that the log is in could not be synced"), "{error}");
-            }
-            other => panic!("{other:?}"),
-        }
+        let error = io_error(LogFile::open(path.with_file_name("new"), CAPACITY));
+        assert_eq!(error.kind(), io::ErrorKind::PermissionDenied);
+        assert!(error.to_string().contains("the folder that the log is in could not be synced"), "{error}");
         return;
     }
     const NOBODY: u32 = 65_534;
@@ -415,13 +415,9 @@ fn what_is_no_regular_file_is_not_opened() {
     let pipe = Scratch::new("pipe");
     assert!(Command::new("mkfifo").arg(&pipe.0).status().unwrap().success());
     for path in [Path::new("/dev/full"), Path::new("/dev/null"), &pipe.0] {
-        match LogFile::open(path, CAPACITY) {
-            Err(Error::Io(error)) => {
-                assert_eq!(error.kind(), io::ErrorKind::InvalidInput);
-                assert!(error.to_string().contains("regular file"), "{}: {error}", path.display());
-            }
-            other => panic!("{other:?}"),
-        }
+        let error = io_error(LogFile::open(path, CAPACITY));
+        assert_eq!(error.kind(), io::ErrorKind::InvalidInput);
+        assert!(error.to_string().contains("regular file"), "{}: {error}", path.display());
     }
 }
 
@@ -438,7 +434,7 @@ fn what_the_library_refuses_is_left_alone() {
         fs::write(&path.0, &bytes).unwrap();
         match LogFile::open(&path.0, CAPACITY) {
             Err(Error::Refused(r)) => assert_eq!(r, refusal),
-            other => panic!("{other:?}"),
+            other => panic!("{:?}", other.map(|log| log.log().state())),
         }
         assert_eq!(fs::read(&path.0).unwrap(), bytes);
     }
@@ -514,16 +510,12 @@ fn a_file_longer_than_memory_is_an_error_and_left_alone() {
         return left_out(&format!("a file of 4 TiB: {error}"));
     }
     match LogFile::open(&path.0, CAPACITY) {
-        Err(Error::Io(error)) => assert_eq!(error.kind(), io::ErrorKind::OutOfMemory),
         Err(Error::Refused(refusal)) => assert_eq!(refusal, Refusal::BadState),
-        other => panic!("{other:?}"),
+        opened => assert_eq!(io_error(opened).kind(), io::ErrorKind::OutOfMemory),
     }
     assert_eq!(fs::metadata(&path.0).unwrap().len(), LENGTH);
     fs::remove_file(&path.0).unwrap();
-    match LogFile::open(&path.0, usize::MAX) {
-        Err(Error::Io(error)) => assert_eq!(error.kind(), io::ErrorKind::OutOfMemory),
-        other => panic!("{other:?}"),
-    }
+    assert_eq!(io_error(LogFile::open(&path.0, usize::MAX)).kind(), io::ErrorKind::OutOfMemory);
 }
 
 #[test]
