@@ -43,6 +43,11 @@ fn row(what: &str, (rust, ours): (f64, f64), note: &str) {
     println!("| {what} | {rust:.0} | {ours:.0} | {:.1} | {note} |", rust / ours);
 }
 
+/// With a decimal for ours, where little is to be told apart.
+fn fine_row(what: &str, (rust, ours): (f64, f64)) {
+    println!("| {what} | {rust:.0} | {ours:.1} | {:.1} | |", rust / ours);
+}
+
 /// A log in memory on both sides.
 struct Log {
     store: Vec<u8>,
@@ -305,7 +310,7 @@ fn recoveries() {
                 }
             },
         );
-        row(&format!("recovery: {what}"), timed, "");
+        fine_row(&format!("recovery: {what}"), timed);
     }
     torn_recovery();
     for (what, pages) in [("1,000", 1_000), ("10,000", 10_000), ("100,000", 100_000)] {
@@ -343,7 +348,7 @@ fn torn_recovery() {
     assert_eq!(lent::recover(&store, cut), Ok(lent::Recovered { state, excess: 0, dropped: 16 }));
     assert!(fails_in_rust(&store[..cut as usize]));
     let ours = least(1_000, || lent::recover(black_box(&store), cut).is_ok());
-    println!("| recovery: 10,000 one-page entries and 16 pages of one of 17 | | {ours:.0} | | {ERROR} |");
+    println!("| recovery: 10,000 one-page entries and 16 pages of one of 17 | | {ours:.1} | | {ERROR} |");
 }
 
 /// Each page is a start whose entry has two: all are dropped, one after the other.
