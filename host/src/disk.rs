@@ -91,8 +91,8 @@ impl Disk for Locked {
 
 /// Syncs a log's folder, for the file's name. A process may be let search a folder and not read it, and then it cannot
 /// sync it. A file that was there before is opened all the same: whoever made it had to sync its name, and an opening
-/// that makes a file fails if it cannot. (What that leaves, an empty file, a later opening cannot tell from one that was
-/// made well.) No other failure is passed over.
+/// that makes a file fails if it cannot. (What that leaves, an empty file, a later opening cannot tell from one that
+/// was made well.) No other failure is passed over.
 fn sync_folder(opened: io::Result<File>, made: bool) -> io::Result<()> {
     match opened {
         Err(error) if error.kind() == io::ErrorKind::PermissionDenied && !made => Ok(()),
