@@ -139,8 +139,8 @@ typedef struct {
 } awirbesh_recovered;
 
 /* The state of the log in the first `length` bytes of the store, by its last whole entry. An entry that a crash cut
- * short is dropped with the pages after its start, and so is the one before it while that is cut by what remains; if
- * nothing is left the state is fresh. Changes no byte: the caller cuts its file to the state's length, which is
+ * short is dropped with the pages after its start, and so is the one before it while that is cut by what remains (and
+ * so is one that damage makes look cut: rules 12); if nothing is left the state is fresh. Changes no byte: the caller cuts its file to the state's length, which is
  * `excess` and 1,024 times `dropped` bytes shorter than the length given. */
 awirbesh_recovered awirbesh_recover(const uint8_t *store, size_t store_len, uint64_t length);
 

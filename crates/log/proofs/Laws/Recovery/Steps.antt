@@ -45,7 +45,7 @@ module _ (pages excess : ℕ) (log : List ℕ) where
 
     -- at a start
     module _ (m : markAt log p ≡ 1) where
-      pub back-start : walkBack pages excess log q ≡ atStart (length log) excess (pages - pageCount log) p (walkBack pages excess (firstPages log p) p) (entryAt log p)
+      back-start : walkBack pages excess log q ≡ atStart (length log) excess (pages - pageCount log) p (walkBack pages excess (firstPages log p) p) (entryAt log p)
       unfolding walkBack
       back-start = rw e (by-start (markAt log p) _ _ _ m)
 
