@@ -133,5 +133,8 @@ asWritten =
 
 -- what the definitions compute is what the rules say
 pub worked : computed ≡ asWritten
-unfolding computed asWritten ofState ofLook ofWhy ofPush ofRecovery ofAnswer pagesFor pageAt numberAt bytesOf markAt lengthAt idAt entryAt filled firstPage laterPage laterPages entryPages tooLong badState leastFrom leastShift offsetOf compared sayingAt turned walk search searchOf findOf atWhole atStart walkBack recoverLog recoverOf entryData some badEnd badBatch largeData someLarge wrote turn entriesFrom pushOf only shifted rounds noteOf answered run
+unfolding computed asWritten ofState ofLook ofWhy ofPush ofRecovery ofAnswer pagesFor pageAt numberAt bytesOf markAt lengthAt idAt entryAt filled
+    firstPage laterPage laterPages entryPages tooLong badState leastFrom leastShift offsetOf compared sayingAt turned walk search searchOf findOf
+    atWhole atStart walkBack recoverLog recoverOf entryData some badEnd badBatch largeData someLarge wrote turn entriesFrom pushOf only shifted rounds
+    noteOf answered run
 worked = refl

@@ -54,12 +54,15 @@ taken-comes-again = refl
 
 -- one that 4 refused
 pub refused-comes-again : run begins (take-id ∷ pushes-four much ∷ recover ∷ take-id ∷ []) ≡ run begins (take-id ∷ [])
-unfolding pagesFor pageAt numberAt bytesOf markAt lengthAt idAt entryAt filled firstPage laterPage laterPages entryPages tooLong badState takeOf atWhole atStart walkBack recoverLog recoverOf entryData some badEnd badBatch largeData someLarge wrote turn entriesFrom pushOf answer step run
+unfolding pagesFor pageAt numberAt bytesOf markAt lengthAt idAt entryAt filled firstPage laterPage laterPages entryPages tooLong badState takeOf
+    atWhole atStart walkBack recoverLog recoverOf entryData some badEnd badBatch largeData someLarge wrote turn entriesFrom pushOf answer step run
 refused-comes-again = refl
 
 -- one of an entry that a cut took away
 pub cut-comes-again : answer (run begins (lend (replicate 3072 0) ∷ pushes-both ∷ cut-log 6620 (1 ∷ []) ∷ [])) take-id ≡ handed-out (taken 5 (stateOf 5120 4 6))
-unfolding pagesFor pageAt numberAt bytesOf markAt lengthAt idAt entryAt filled firstPage laterPage laterPages entryPages tooLong badState takeOf atWhole atStart walkBack recoverLog recoverOf entryData some badEnd badBatch largeData someLarge wrote turn entriesFrom pushOf anotherStore answer step run
+unfolding pagesFor pageAt numberAt bytesOf markAt lengthAt idAt entryAt filled firstPage laterPage laterPages entryPages tooLong badState takeOf
+    atWhole atStart walkBack recoverLog recoverOf entryData some badEnd badBatch largeData someLarge wrote turn entriesFrom pushOf anotherStore answer
+    step run
 cut-comes-again = refl
 
 -- ---- 12.3: faults that are not told
@@ -71,7 +74,8 @@ fault-unseen = refl
 
 -- in a log that is not sound, with 5 before 3, a stored id is missed: 11.5 asks for a sound log
 pub stored-and-missed : findOf (entryPages 5 [] ++ entryPages 3 []) (stateOf 2048 5 6) 5 ≡ absent 2048
-unfolding pagesFor pageAt numberAt bytesOf markAt lengthAt idAt entryAt filled firstPage laterPage laterPages entryPages tooLong badState leastFrom leastShift offsetOf compared sayingAt turned walk search searchOf findOf
+unfolding pagesFor pageAt numberAt bytesOf markAt lengthAt idAt entryAt filled firstPage laterPage laterPages entryPages tooLong badState leastFrom
+    leastShift offsetOf compared sayingAt turned walk search searchOf findOf
 stored-and-missed = refl
 
 -- ---- 12.6: filling that another program wrote
@@ -113,7 +117,8 @@ abbrev older : List ℕ
 older = take 4096 store ++ entryPages 1 []
 
 pub older-found : (recoverOf older 5120 ≡ recovered (stateOf 5120 1 2) 0 0) × (checkOf older 5120 ≡ refused 15 4)
-unfolding pagesFor pageAt numberAt bytesOf markAt lengthAt idAt entryAt filled firstPage laterPage laterPages entryPages tooLong atWhole atStart walkBack recoverLog recoverOf laterMarks checkStart checkPage checkEnd checkFrom checkOf
+unfolding pagesFor pageAt numberAt bytesOf markAt lengthAt idAt entryAt filled firstPage laterPage laterPages entryPages tooLong atWhole atStart
+    walkBack recoverLog recoverOf laterMarks checkStart checkPage checkEnd checkFrom checkOf
 older-found = (refl, refl)
 
 -- ---- 6.7: what is read goes further down than the last start that is whole in the log: 2, on pages 1 and 2, is cut by 3, which starts on page 2 and is cut
@@ -138,7 +143,8 @@ cut-differs = (refl, refl)
 
 pub made-up-torn : (pushOf store (stateOf 4096 9 10) (10 ∷ []) (0 ∷ []) [] .answer .written ≡ 1)
     × (recoverOf (pushOf store (stateOf 4096 9 10) (10 ∷ []) (0 ∷ []) [] .store) 4096 ≡ recovered (stateOf 4096 3 4) 0 0)
-unfolding pagesFor pageAt numberAt bytesOf markAt lengthAt idAt entryAt filled firstPage laterPage laterPages entryPages tooLong badState entryData some badEnd badBatch largeData someLarge wrote turn entriesFrom pushOf atWhole atStart walkBack recoverLog recoverOf
+unfolding pagesFor pageAt numberAt bytesOf markAt lengthAt idAt entryAt filled firstPage laterPage laterPages entryPages tooLong badState entryData
+    some badEnd badBatch largeData someLarge wrote turn entriesFrom pushOf atWhole atStart walkBack recoverLog recoverOf
 made-up-torn = (refl, refl)
 
 -- ---- 11.9 and 11.10 ask that no cut falls below: 3, settled and found, is lost by a cut in its last page, and 5 by one in its own, though both are below next again
@@ -150,14 +156,17 @@ pub three-was-settled : Settled begins 3
 three-was-settled = record { some = lit≤ tt; most = lit≤ tt; below = lit< tt }
 
 pub three-is-lost : (cut-three .state ≡ stateOf 2048 1 4) × (findOf (cut-three .store) (cut-three .state) 3 ≡ absent 2048)
-unfolding pagesFor pageAt numberAt bytesOf markAt lengthAt idAt entryAt filled firstPage laterPage laterPages entryPages tooLong badState takeOf leastFrom leastShift offsetOf compared sayingAt turned walk search searchOf findOf atWhole atStart walkBack recoverLog recoverOf answer step run
+unfolding pagesFor pageAt numberAt bytesOf markAt lengthAt idAt entryAt filled firstPage laterPage laterPages entryPages tooLong badState takeOf
+    leastFrom leastShift offsetOf compared sayingAt turned walk search searchOf findOf atWhole atStart walkBack recoverLog recoverOf answer step run
 three-is-lost = (refl, refl)
 
 abbrev cut-five : World
 cut-five = run pushed-five (cut-log 5000 [] ∷ take-id ∷ take-id ∷ [])
 
 pub five-is-lost : (cut-five .state ≡ stateOf 4096 3 6) × (findOf (cut-five .store) (cut-five .state) 5 ≡ absent 4096)
-unfolding pagesFor pageAt numberAt bytesOf markAt lengthAt idAt entryAt filled firstPage laterPage laterPages entryPages tooLong badState takeOf leastFrom leastShift offsetOf compared sayingAt turned walk search searchOf findOf entryData some badEnd badBatch largeData someLarge wrote turn entriesFrom pushOf atWhole atStart walkBack recoverLog recoverOf answer step run
+unfolding pagesFor pageAt numberAt bytesOf markAt lengthAt idAt entryAt filled firstPage laterPage laterPages entryPages tooLong badState takeOf
+    leastFrom leastShift offsetOf compared sayingAt turned walk search searchOf findOf entryData some badEnd badBatch largeData someLarge wrote turn
+    entriesFrom pushOf atWhole atStart walkBack recoverLog recoverOf answer step run
 five-is-lost = (refl, refl)
 
 -- ---- 11.3 asks that the entries are counted: of an id and data pushed twice, the second, which is refused, leaves 255s
@@ -172,7 +181,8 @@ only-the-first = (refl, refl)
 -- ---- 11.7 asks for a last written at or above the last stored id: with one that was made up a push leaves a log that is not sound
 
 pub made-up-last : checkOf (pushOf store (stateOf 4096 0 4) (1 ∷ []) (0 ∷ []) [] .store) 5120 ≡ refused 15 4
-unfolding pagesFor pageAt numberAt bytesOf markAt lengthAt idAt entryAt filled firstPage laterPage laterPages entryPages tooLong badState entryData some badEnd badBatch largeData someLarge wrote turn entriesFrom pushOf laterMarks checkStart checkPage checkEnd checkFrom checkOf
+unfolding pagesFor pageAt numberAt bytesOf markAt lengthAt idAt entryAt filled firstPage laterPage laterPages entryPages tooLong badState entryData
+    some badEnd badBatch largeData someLarge wrote turn entriesFrom pushOf laterMarks checkStart checkPage checkEnd checkFrom checkOf
 made-up-last = refl
 
 -- ---- 11.8 and 11.10 ask for a history: in states that were made up 5 is settled by last written and above the last stored id, and 3, which is stored, above last written

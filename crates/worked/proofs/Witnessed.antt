@@ -141,16 +141,19 @@ three-stays-settled later spare = settled-in-words begins begins-there [] 3 thre
 -- ---- id 3 is found and id 2 is absent, through any calls that cut nothing below
 
 pub three-stays-found : (later : List Call) → AllSpare 4096 later → (out : List ℕ) → 1013 ≤ length out → LooksUp (answer (run begins later) (lookup 3 out)) (present 2048 1013) (replicate 1013 9 ++ drop 1013 out)
-unfolding pagesFor pageAt numberAt bytesOf markAt lengthAt idAt entryAt placeOf dataOf dataAt filled firstPage laterPage laterPages entryPages tooLong badState leastFrom leastShift offsetOf compared sayingAt turned walk search searchOf findOf standingData settled run
+unfolding pagesFor pageAt numberAt bytesOf markAt lengthAt idAt entryAt placeOf dataOf dataAt filled firstPage laterPage laterPages entryPages tooLong
+    badState leastFrom leastShift offsetOf compared sayingAt turned walk search searchOf findOf standingData settled run
 three-stays-found later spare out enough = settled begins begins-there [] 3 (settled-there 3 (lit≤ tt) (lit≤ tt)) .kept later spare .answers (lookup 3 out) refl enough
 
 pub two-stays-absent : (later : List Call) → AllSpare 4096 later → (out : List ℕ) → LooksUp (answer (run begins later) (lookup 2 out)) (missing 2048) out
-unfolding pagesFor pageAt numberAt bytesOf markAt lengthAt idAt entryAt filled firstPage laterPage laterPages entryPages tooLong badState leastFrom leastShift offsetOf compared sayingAt turned walk search searchOf findOf standingData settled run
+unfolding pagesFor pageAt numberAt bytesOf markAt lengthAt idAt entryAt filled firstPage laterPage laterPages entryPages tooLong badState leastFrom
+    leastShift offsetOf compared sayingAt turned walk search searchOf findOf standingData settled run
 two-stays-absent later spare out = settled begins begins-there [] 2 (settled-there 2 (lit≤ tt) (lit≤ tt)) .kept later spare .answers (lookup 2 out) refl (omega arith)
 
 -- a find that is among the later calls gave it
 pub three-was-given : Gives (find 3) (answer begins (find 3)) 3 (present 2048 1013) (replicate 1013 9)
-unfolding pagesFor pageAt numberAt bytesOf markAt lengthAt idAt entryAt placeOf dataOf dataAt filled firstPage laterPage laterPages entryPages tooLong badState leastFrom leastShift offsetOf compared sayingAt turned walk search searchOf findOf standingData settled run said
+unfolding pagesFor pageAt numberAt bytesOf markAt lengthAt idAt entryAt placeOf dataOf dataAt filled firstPage laterPage laterPages entryPages tooLong
+    badState leastFrom leastShift offsetOf compared sayingAt turned walk search searchOf findOf standingData settled run said
 three-was-given = settled begins begins-there [] 3 (settled-there 3 (lit≤ tt) (lit≤ tt)) .gave (find 3 ∷ []) (tt, tt) (record { call = find 3; reply = answer begins (find 3) }) (List·Memᴰ·head refl)
 
 -- ---- a lookup and a scan of that log, each with enough output
@@ -216,7 +219,8 @@ abbrev pub pushed-five : World
 pushed-five = step (run begins takes) pushes-five
 
 pub five-reads-back : ReadsBack pushed-five 5 (8 ∷ []) 5120
-unfolding pagesFor pageAt bytesOf filled firstPage laterPage laterPages entryPages tooLong badState takeOf entryData some badEnd badBatch largeData someLarge wrote turn entriesFrom pushOf batchPages answer step run
+unfolding pagesFor pageAt bytesOf filled firstPage laterPage laterPages entryPages tooLong badState takeOf entryData some badEnd badBatch largeData
+    someLarge wrote turn entriesFrom pushOf batchPages answer step run
 five-reads-back = read-back begins begins-there takes (5 ∷ []) (1 ∷ []) (8 ∷ []) one-word 0 (lit< tt)
 
 five-settled : Settled pushed-five 5
@@ -272,7 +276,8 @@ four-with-room = tried-again refused-four 4 (inr refl) refl (store ++ page-more)
 
 -- in a history: refused, another store lent with a page more, the same push
 pub four-is-last : LastStored (logOf (run begins (take-id ∷ pushes-four much ∷ lend (replicate 3072 0) ∷ pushes-four much ∷ []))) 4
-unfolding pagesFor bytesOf filled firstPage laterPage laterPages entryPages tooLong badState takeOf entryData some badEnd badBatch largeData someLarge wrote turn entriesFrom pushOf anotherStore answer step run
+unfolding pagesFor bytesOf filled firstPage laterPage laterPages entryPages tooLong badState takeOf entryData some badEnd badBatch largeData someLarge
+    wrote turn entriesFrom pushOf anotherStore answer step run
 four-is-last = last-is-stored begins begins-there (take-id ∷ pushes-four much ∷ lend (replicate 3072 0) ∷ pushes-four much ∷ [])
 
 pub five-is-last : LastStored (logAfter (pushOf store (begins .state) (5 ∷ []) (1 ∷ []) (8 ∷ []))) 5
@@ -310,7 +315,8 @@ both-torn rest fits = torn cut-push two-words longer-sound last-is-three 6620 (l
 
 -- with a byte beyond: 4 is kept, a page and 476 bytes of 5 are not
 pub four-kept : recoverOf (take 6620 (outcome cut-push .store) ++ (1 ∷ [])) 6620 ≡ recovered (stateOf 5120 4 5) 476 1
-unfolding pagesFor pageAt numberAt bytesOf markAt lengthAt idAt entryAt filled firstPage laterPage laterPages entryPages tooLong badState entryData some badEnd badBatch largeData someLarge wrote turn entriesFrom pushOf atWhole atStart walkBack recoverLog recoverOf
+unfolding pagesFor pageAt numberAt bytesOf markAt lengthAt idAt entryAt filled firstPage laterPage laterPages entryPages tooLong badState entryData
+    some badEnd badBatch largeData someLarge wrote turn entriesFrom pushOf atWhole atStart walkBack recoverLog recoverOf
 four-kept = refl
 
 -- a store that differs before 4, the last whole entry, recovers alike
@@ -318,7 +324,8 @@ abbrev torn-store : List ℕ
 torn-store = take 6620 (outcome cut-push .store) ++ (1 ∷ [])
 
 four-apart : Apart (wholePages torn-store 6620) 4
-unfolding pagesFor pageAt numberAt bytesOf markAt lengthAt filled firstPage laterPage laterPages entryPages tooLong badState entryData some badEnd badBatch largeData someLarge wrote turn entriesFrom pushOf
+unfolding pagesFor pageAt numberAt bytesOf markAt lengthAt filled firstPage laterPage laterPages entryPages tooLong badState entryData some badEnd
+    badBatch largeData someLarge wrote turn entriesFrom pushOf
 four-apart = record { start = record { inside = lit< tt; marked = refl }; before = λ q h l. l; within = lit≤ tt }
 
 pub torn-alike : recoverOf torn-store 6620 ≡ recoverOf (entryPages 1 (6 ∷ []) ++ drop 1024 torn-store) 6620
@@ -329,7 +336,8 @@ torn-alike =
 
 -- a recovery that drops nothing refuses it
 pub five-is-cut : strictOf torn-store 6620 ≡ unrecovered 7 5
-unfolding pagesFor pageAt numberAt bytesOf markAt lengthAt idAt entryAt filled firstPage laterPage laterPages entryPages tooLong badState entryData some badEnd badBatch largeData someLarge wrote turn entriesFrom pushOf atWhole strictAt strictBack strictOf
+unfolding pagesFor pageAt numberAt bytesOf markAt lengthAt idAt entryAt filled firstPage laterPage laterPages entryPages tooLong badState entryData
+    some badEnd badBatch largeData someLarge wrote turn entriesFrom pushOf atWhole strictAt strictBack strictOf
 five-is-cut = refl
 
 -- what is left of it recovers to the same, and all of it adds up
@@ -338,7 +346,8 @@ four-again = (recovered-again torn-store 6620 (stateOf 5120 4 5) 476 1 four-kept
 
 -- and a history may begin with it
 pub torn-begins : Begun (world torn-store (stateOf 5120 4 5))
-unfolding pagesFor pageAt numberAt bytesOf markAt lengthAt idAt entryAt filled firstPage laterPage laterPages entryPages tooLong badState entryData some badEnd badBatch largeData someLarge wrote turn entriesFrom pushOf laterMarks checkStart checkPage checkEnd checkFrom checkOf
+unfolding pagesFor pageAt numberAt bytesOf markAt lengthAt idAt entryAt filled firstPage laterPage laterPages entryPages tooLong badState entryData
+    some badEnd badBatch largeData someLarge wrote turn entriesFrom pushOf laterMarks checkStart checkPage checkEnd checkFrom checkOf
 torn-begins = record { size = 6620; excess = 476; dropped = 1; is = four-kept; sound = checked-sound torn-store 5120 .0 refl .sound }
 
 -- in a history: a longer store is lent, both are pushed, the log is cut there, 5 is handed out again
@@ -346,7 +355,9 @@ abbrev torn-calls : List Call
 torn-calls = lend (replicate 3072 0) ∷ pushes-both ∷ cut-log 6620 (1 ∷ []) ∷ take-id ∷ []
 
 pub torn-goes-on : (run begins torn-calls .state ≡ stateOf 5120 4 6) × AllSpare 4096 torn-calls
-unfolding pagesFor pageAt numberAt bytesOf markAt lengthAt idAt entryAt filled firstPage laterPage laterPages entryPages tooLong badState takeOf entryData some badEnd badBatch largeData someLarge wrote turn entriesFrom pushOf atWhole atStart walkBack recoverLog recoverOf anotherStore answer step run
+unfolding pagesFor pageAt numberAt bytesOf markAt lengthAt idAt entryAt filled firstPage laterPage laterPages entryPages tooLong badState takeOf
+    entryData some badEnd badBatch largeData someLarge wrote turn entriesFrom pushOf atWhole atStart walkBack recoverLog recoverOf anotherStore answer
+    step run
 torn-goes-on = (refl, (tt, (tt, (lit≤ tt, (tt, tt)))))
 
 -- where 3 is found as before
@@ -362,7 +373,9 @@ abbrev pushes-top : Call
 pushes-top = push (0xffffffffffffffff ∷ []) (0 ∷ []) [] top-word
 
 pub three-after-nine : KeepsFull (run begins (pushes-top ∷ [])) 5120 [] 3 (present 2048 1013) (replicate 1013 9) 4096
-unfolding pagesFor pageAt numberAt bytesOf markAt lengthAt idAt entryAt placeOf dataOf dataAt filled firstPage laterPage laterPages entryPages tooLong badState leastFrom leastShift offsetOf compared sayingAt turned walk search searchOf findOf entryData some badEnd badBatch largeData someLarge wrote turn entriesFrom pushOf atWhole atStart walkBack recoverLog recoverOf standingData settled answer step run
+unfolding pagesFor pageAt numberAt bytesOf markAt lengthAt idAt entryAt placeOf dataOf dataAt filled firstPage laterPage laterPages entryPages tooLong
+    badState leastFrom leastShift offsetOf compared sayingAt turned walk search searchOf findOf entryData some badEnd badBatch largeData someLarge
+    wrote turn entriesFrom pushOf atWhole atStart walkBack recoverLog recoverOf standingData settled answer step run
 three-after-nine = settled begins begins-there [] 3 (settled-there 3 (lit≤ tt) (lit≤ tt)) .full (pushes-top ∷ []) (tt, tt) 5120 [] (lit≤ tt) refl (lit< tt)
 
 -- 4 reads back through any cut after its page, though 5 of the same push is cut
@@ -370,14 +383,17 @@ abbrev lent-calls : List Call
 lent-calls = lend (replicate 3072 0) ∷ take-id ∷ take-id ∷ []
 
 pub four-reads-back : ReadsBack (step (run begins lent-calls) pushes-both) 4 (8 ∷ []) 5120
-unfolding pagesFor pageAt bytesOf filled firstPage laterPage laterPages entryPages tooLong badState takeOf entryData some badEnd badBatch largeData someLarge wrote turn entriesFrom pushOf batchPages anotherStore answer step run
+unfolding pagesFor pageAt bytesOf filled firstPage laterPage laterPages entryPages tooLong badState takeOf entryData some badEnd badBatch largeData
+    someLarge wrote turn entriesFrom pushOf batchPages anotherStore answer step run
 four-reads-back = read-back begins begins-there lent-calls (4 ∷ 5 ∷ []) (1 ∷ 1014 ∷ []) both two-words 0 (lit< tt)
 
 abbrev cut-then : World
 cut-then = run (step (run begins lent-calls) pushes-both) (cut-log 6620 (1 ∷ []) ∷ [])
 
 pub four-below-next : 4 < cut-then .state .next
-unfolding pagesFor pageAt numberAt bytesOf markAt lengthAt idAt entryAt filled firstPage laterPage laterPages entryPages tooLong badState takeOf entryData some badEnd badBatch largeData someLarge wrote turn entriesFrom pushOf atWhole atStart walkBack recoverLog recoverOf anotherStore answer step run
+unfolding pagesFor pageAt numberAt bytesOf markAt lengthAt idAt entryAt filled firstPage laterPage laterPages entryPages tooLong badState takeOf
+    entryData some badEnd badBatch largeData someLarge wrote turn entriesFrom pushOf atWhole atStart walkBack recoverLog recoverOf anotherStore answer
+    step run
 four-below-next = lit< tt
 
 pub four-stays-read : Answers cut-then 4 (present (four-reads-back .position) 1) (8 ∷ [])

@@ -99,7 +99,8 @@ module _ (w : World) (id : ℕ) where
   lookup-leaves out (refused number value) e f enough = absurd f
 
   looks-up : (out : List ℕ) → RightStanding (logOf w) id (standing (findOf (w .store) (w .state) id)) → length (standingData (logOf w) (standing (findOf (w .store) (w .state) id))) ≤ length out
-      → LooksUp (answer w (lookup id out)) (standing (findOf (w .store) (w .state) id)) (standingData (logOf w) (standing (findOf (w .store) (w .state) id)) ++ drop (length (standingData (logOf w) (standing (findOf (w .store) (w .state) id)))) out)
+      → LooksUp (answer w (lookup id out)) (standing (findOf (w .store) (w .state) id))
+      (standingData (logOf w) (standing (findOf (w .store) (w .state) id)) ++ drop (length (standingData (logOf w) (standing (findOf (w .store) (w .state) id)))) out)
   unfolding answer
   looks-up out f enough =
       let l = lookup-leaves out (findOf (w .store) (w .state) id) refl f enough in

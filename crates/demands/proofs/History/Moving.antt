@@ -21,7 +21,7 @@ use Rattle.demands.specs.Recovery.{RightRecovery}
 use Rattle.demands.specs.History.{World, world, logOf, Words, Call, push, take-id, find, lookup, scan, step-on, recover, lend, cut-log}
 use Rattle.demands.specs.History.{anotherStore, answer, stateAfterTake, stateAfterRecovery, step, run, Spares, AllSpare, Settled}
 use Rattle.demands.proofs.Sound.{sound-good, sound-length}
-use Rattle.demands.proofs.Last.{last-stored-unique, last-stored-rises, last-stored-ready}
+use Rattle.demands.proofs.Last.{last-stored-unique, last-stored-ready}
 use Rattle.demands.proofs.Push.Batch.{push-grows, push-right, push-last-stored}
 use Rattle.demands.proofs.Front.{sound-front}
 use Rattle.demands.proofs.Recovery.Resuming.{no-excess, recover-right, by-recovery}
@@ -65,11 +65,9 @@ module _ (w : World) (i : Lives w) where
       let more = batchPages ids ends bytes (pushOf (w .store) (w .state) ids ends bytes .answer .written) in
       let good = push-right ids ends bytes words (w .store) (w .state) (last-stored-ready (w .store) (w .state) (i .good) (i .last)) .ready .good in
       let last = push-last-stored ids ends bytes words (w .store) (w .state) (i .good) (i .last) in
-      let rises = last-stored-rises (logOf w) more (rw (g .log) at (good .sound)) (w .state .last) _ (i .last) (rw (g .log) at last) in
-      record {
-        over = record { lives = record { good = good; last = last }; grows = record { more = more; is = g .log } };
-        settled = λ id h. record { some = h .some; most = omega (arith, h .most, rises); below = omega (arith, h .below, g .next) };
-      }
+      let over : Over (logOf w) (world (pushOf (w .store) (w .state) ids ends bytes .store) (pushOf (w .store) (w .state) ids ends bytes .answer .state)) =
+      record { lives = record { good = good; last = last }; grows = record { more = more; is = g .log } } in
+      record { over = over; settled = λ id h. record { some = h .some; most = omega (arith, h .most, over-rises w i over); below = omega (arith, h .below, g .next) } }
 
   moved-take : Moved w (world (w .store) (stateAfterTake (w .state) (takeOf (w .state))))
   unfolding takeOf

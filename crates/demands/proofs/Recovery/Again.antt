@@ -127,7 +127,9 @@ module _ (log : List ℕ) (pages excess : ℕ) (st : State) (said dropped : ℕ)
 
 -- from the last page of all
 same-all : (log : List ℕ) (excess : ℕ) (st : State) (said dropped : ℕ) → firstPages log (pageCount log) ≡ log → recoverLog log excess ≡ recovered st said dropped → Same log (pageCount log) excess st said dropped
-same-all log excess st said dropped all e = same-from log (pageCount log) excess st said dropped (pageCount log) (pageCount log) (omega arith) (omega arith) (λ p a b. absurd (omega arith)) (rw all (sym (from-last log excess) ∙ e))
+same-all log excess st said dropped all e =
+    same-from log (pageCount log) excess st said dropped (pageCount log) (pageCount log) (omega arith) (omega arith)
+    (λ p a b. absurd (omega arith)) (rw all (sym (from-last log excess) ∙ e))
 
 module _ (store : List ℕ) (n : ℕ) (st : State) (excess dropped : ℕ) (e : recoverOf store n ≡ recovered st excess dropped) where
   abbrev w : ℕ
@@ -143,7 +145,10 @@ module _ (store : List ℕ) (n : ℕ) (st : State) (excess dropped : ℕ) (e : r
   size = length-log store w (omega (arith, f .inside))
 
   s : Same log (pageCount log) (excessOf n) st excess dropped
-  s = same-all log (excessOf n) st excess dropped (all-pages log (pageCount log) refl (omega (arith, size))) (recover-cut store n (not-too-long store n f) w (sym size) refl ∙ e)
+  s =
+      same-all log (excessOf n) st excess dropped
+      (all-pages log (pageCount log) refl (omega (arith, size)))
+      (recover-cut store n (not-too-long store n f) w (sym size) refl ∙ e)
 
   -- ---- THEOREM: what is left, what was dropped and the excess add up
 
