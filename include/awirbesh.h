@@ -19,10 +19,15 @@
  * THE STORE holds the log in its first `state.length` bytes (rules 1). At most 2^31 bytes; a longer one is refused
  * with 1.
  *
+ * THE CEILING keeps used ids used (rules 5, 6, 11). Ids are handed out below it alone. Before an id is taken under a
+ * raised ceiling, the ceiling is stored where it outlives the process; recovery is given the ceiling that was stored,
+ * and hands out none below it. Then no id is handed out twice, also after a crash, as long as only ids that were handed
+ * out are pushed, each once. A recovery that is given an older ceiling, or 0, may hand ids out again.
+ *
  * NUMBERS (rules 3). `number` is 0 where the call did what it says, else the number of the refusal, and `value`
  * is what that refusal names: a page for 5 to 8, 14 and 15, the length needed for 10, and 0 for each other.
- * After a refusal every other field is 0, but for what is there to go on with: the state of a take and a push, the
- * cursor of a step, the sequence of a note, and `written` of a push, which still counts the entries that were
+ * After a refusal every other field is 0, but for what is there to go on with: the state of a take, a raise and a
+ * push, the cursor of a step, the sequence of a note, and `written` of a push, which still counts the entries that were
  * written. Outside a push a refusal changes no byte. Positions, lengths and ends are bytes; a page's number is its
  * position divided by 1,024.
  *
@@ -46,6 +51,8 @@
  *   14 overlap          awirbesh_check only: a start inside an entry
  *   15 not ascending    awirbesh_check only: an id that is not above the one before, or is 0
  *   16 value too large  some data of a batch is longer than 16,777,208 bytes
+ *   30 ceiling reached  an id was asked for when next is not below the ceiling: raise it, store it, take again
+ *   31 bad raise        a step of 0 or above 2^32, or one with which the ceiling would pass 2^64-1
  */
 #ifndef AWIRBESH_H
 #define AWIRBESH_H
@@ -74,16 +81,19 @@ enum {
     AWIRBESH_BAD_BATCH = 13,
     AWIRBESH_OVERLAP = 14,
     AWIRBESH_NOT_ASCENDING = 15,
-    AWIRBESH_VALUE_TOO_LARGE = 16
+    AWIRBESH_VALUE_TOO_LARGE = 16,
+    AWIRBESH_CEILING_REACHED = 30,
+    AWIRBESH_BAD_RAISE = 31
 };
 
 /* ---- what the caller keeps: rules 1, 9, 10 ---- */
 
-/* The log's three numbers. A caller may make one up: a length that cannot be is refused with 1. */
+/* The log's four numbers. A caller may make one up: a length that cannot be is refused with 1. */
 typedef struct {
-    uint64_t length; /* bytes of the store that are the log */
-    uint64_t last;   /* the id of the entry written last, 0 for none */
-    uint64_t next;   /* the id that awirbesh_take hands out next */
+    uint64_t length;  /* bytes of the store that are the log */
+    uint64_t last;    /* the id of the entry written last, 0 for none */
+    uint64_t next;    /* the id that awirbesh_take hands out next */
+    uint64_t ceiling; /* ids are handed out below it alone */
 } awirbesh_state;
 
 /* One end of a range of ids. A kind that is neither 1 nor 2 is open, and its id is not read. */
@@ -108,17 +118,26 @@ typedef struct {
 
 /* ---- the state: rules 1, 5 ---- */
 
-/* The state of an empty log: 0, 0, 1. */
+/* The state of an empty log from which no id was handed out: 0, 0, 1, 1. */
 awirbesh_state awirbesh_fresh(void);
 
 typedef struct {
-    uint64_t number;      /* 0 or 9 */
+    uint64_t number;      /* 0, 9 or 30 */
     uint64_t id;          /* the id handed out */
     awirbesh_state state; /* next is one more; after a refusal the state as given */
 } awirbesh_taken;
 
-/* Hands out the next id. The state's other numbers are not looked at. */
+/* Hands out the next id, if it is below the ceiling. Length and last are not looked at. */
 awirbesh_taken awirbesh_take(awirbesh_state state);
+
+typedef struct {
+    uint64_t number;      /* 0 or 31 */
+    awirbesh_state state; /* with the new ceiling; after a refusal the state as given */
+} awirbesh_raised;
+
+/* Raises the ceiling by a step from 1 to 2^32. Store the ceiling answered before an id is taken from this state.
+ * Nothing else of the state is looked at. */
+awirbesh_raised awirbesh_raise(awirbesh_state state, uint64_t step);
 
 /* ---- a log as it is found: rules 6, 7 ---- */
 
@@ -140,9 +159,11 @@ typedef struct {
 
 /* The state of the log in the first `length` bytes of the store, by its last whole entry. An entry that a crash cut
  * short is dropped with the pages after its start, and so is the one before it while that is cut by what remains (and
- * so is one that damage makes look cut: rules 12); if nothing is left the state is fresh. Changes no byte: the caller cuts its file to the state's length, which is
- * `excess` and 1,024 times `dropped` bytes shorter than the length given. */
-awirbesh_recovered awirbesh_recover(const uint8_t *store, size_t store_len, uint64_t length);
+ * so is one that damage makes look cut: rules 12). Next is the larger of `stored`, the ceiling that was stored, and the
+ * last id + 1, 1 if nothing is left; the ceiling is next, so that the first take asks for a raise. Changes no byte: the
+ * caller cuts its file to the state's length, which is `excess` and 1,024 times `dropped` bytes shorter than the length
+ * given. */
+awirbesh_recovered awirbesh_recover(const uint8_t *store, size_t store_len, uint64_t length, uint64_t stored);
 
 /* ---- reading: rules 8, 9; what a sound log is, rules 2 ---- */
 
@@ -197,8 +218,8 @@ typedef struct {
 /* Appends a batch: entry i has the id ids[i] and the data from ends[i - 1] (0 for the first) to ends[i] of
  * `data`. 1, 13 and 16 change nothing. 2, 3 and 4, tested in this order, end the push at an entry: those before it
  * stay, and `last` moves with the entries written alone. Only the pages added, from the old length to the new, are
- * written to. Never moves next. After an entry's data come zeros to its last page's end: its pages depend on its id
- * and data alone, and hold nothing of the entries before it or of what the store held (rules 1, 11).
+ * written to. Never moves next or the ceiling. After an entry's data come zeros to its last page's end: its pages
+ * depend on its id and data alone, and hold nothing of the entries before it or of what the store held (rules 1, 11).
  *
  * An entry that 3 or 4 refuses keeps its id, as those after it do, until the log is recovered (rules 12): push it
  * again with the state answered and less data, or after 4 with a longer store that begins with the same bytes. After

@@ -4,13 +4,15 @@
 //! What a caller owes is what a Rust reference promises anyway: valid, aligned, not null, and nothing that is
 //! written to is also reachable by another argument.
 
-/// The log's three numbers: bytes of the store that are the log, last written id, next id to hand out.
+/// The log's four numbers: bytes of the store that are the log, last written id, next id to hand out, and the ceiling
+/// below which ids are handed out.
 #[repr(C)]
 #[derive(Clone, Copy, Debug, PartialEq, Eq, Hash)]
 pub struct State {
     pub length: u64,
     pub last: u64,
     pub next: u64,
+    pub ceiling: u64,
 }
 
 pub const OPEN: u64 = 0;
@@ -44,6 +46,13 @@ pub struct Sequence {
 pub struct Taken {
     pub number: u64,
     pub id: u64,
+    pub state: State,
+}
+
+#[repr(C)]
+#[derive(Clone, Copy, Debug, PartialEq, Eq)]
+pub struct Raised {
+    pub number: u64,
     pub state: State,
 }
 
@@ -114,8 +123,9 @@ pub struct Noted {
 extern "C" {
     pub fn awirbesh_fresh() -> State;
     pub fn awirbesh_take(state: State) -> Taken;
+    pub fn awirbesh_raise(state: State, step: u64) -> Raised;
     pub fn awirbesh_check(store: *const u8, store_len: usize, length: u64) -> Checked;
-    pub fn awirbesh_recover(store: *const u8, store_len: usize, length: u64) -> Recovered;
+    pub fn awirbesh_recover(store: *const u8, store_len: usize, length: u64, stored: u64) -> Recovered;
     pub fn awirbesh_find(store: *const u8, store_len: usize, state: State, id: u64) -> Look;
     pub fn awirbesh_lookup(
         store: *const u8,

@@ -15,6 +15,7 @@ use Rattle.awirbesh.specs.Push.{reasonNumber, pushedNumbers}
 use Rattle.awirbesh.specs.Sequence.{yesNumber}
 use Rattle.awirbesh.specs.declared.state.StateNumbers.{StateNumbers}
 use Rattle.awirbesh.specs.declared.state.TakenNumbers.{TakenNumbers}
+use Rattle.awirbesh.specs.declared.state.RaisedNumbers.{RaisedNumbers}
 use Rattle.awirbesh.specs.declared.reading.EndNumbers.{EndNumbers}
 use Rattle.awirbesh.specs.declared.reading.LookNumbers.{LookNumbers}
 use Rattle.awirbesh.specs.declared.reading.SteppedNumbers.{SteppedNumbers}
@@ -34,18 +35,30 @@ unstepping number value cursor = record { number = number; value = value; kind =
 pub cursor-is : (given number value cursor : ℕ) → cursor ≡ given → unstepping number value cursor ≡ steppedNumbers given (unstepped number value)
 cursor-is given number value cursor e = rw e
 
--- a refused take has the state given
-abbrev numbersOf : ℕ → ℕ → ℕ → StateNumbers
-numbersOf n last next = record { length = n; last = last; next = next }
+-- a refused take has the state given, and so has a refused raising
+abbrev numbersOf : ℕ → ℕ → ℕ → ℕ → StateNumbers
+numbersOf n last next ceiling = record { length = n; last = last; next = next; ceiling = ceiling }
 
 abbrev takeRefused : ℕ → StateNumbers → TakenNumbers
 takeRefused number st = record { number = number; id = 0; state = st }
 
-by-numbers : (n n′ last last′ next next′ : ℕ) → n ≡ n′ → last ≡ last′ → next ≡ next′ → numbersOf n last next ≡ numbersOf n′ last′ next′
-by-numbers n n′ last last′ next next′ a b c = rw (a, b, c)
+abbrev raiseRefused : ℕ → StateNumbers → RaisedNumbers
+raiseRefused number st = record { number = number; state = st }
 
-pub state-is : (given st : StateNumbers) (number : ℕ) → st .length ≡ given .length → st .last ≡ given .last → st .next ≡ given .next → takeRefused number st ≡ takeRefused number given
-state-is given st number a b c = let e : st ≡ given = by-numbers _ _ _ _ _ _ a b c in rw e
+by-numbers : (n n′ last last′ next next′ ceiling ceiling′ : ℕ) → n ≡ n′ → last ≡ last′ → next ≡ next′ → ceiling ≡ ceiling′
+    → numbersOf n last next ceiling ≡ numbersOf n′ last′ next′ ceiling′
+by-numbers n n′ last last′ next next′ ceiling ceiling′ a b c d = rw (a, b, c, d)
+
+module _ (given st : StateNumbers) (number : ℕ)
+    (a : st .length ≡ given .length) (b : st .last ≡ given .last) (c : st .next ≡ given .next) (d : st .ceiling ≡ given .ceiling) where
+  same : st ≡ given
+  same = by-numbers _ _ _ _ _ _ _ _ a b c d
+
+  pub state-is : takeRefused number st ≡ takeRefused number given
+  state-is = rw same
+
+  pub raise-state-is : raiseRefused number st ≡ raiseRefused number given
+  raise-state-is = rw same
 
 -- a push has the number of its reason
 abbrev pushedBy : ℕ → ℕ → StateNumbers → PushedNumbers

@@ -3,7 +3,7 @@ use Prim.Native.Nat.{_≤_}
 use native.Mathlib.Omega.{arith}
 use Rattle.refusal.specs.Refusal.{numberOf}
 use Rattle.refusal.specs.declared.Refusal.{Refusal}
-use Rattle.refusal.specs.declared.Refusal.the-variants.{BadState, OutOfOrder, TooLarge, NoRoom, BadMark, ShortEntry, CutEntry, NoEntries, IdsUsedUp, BufferSmall, BelowStart, OutsideWindow, BadBatch, Overlap, NotAscending, ValueTooLarge}
+use Rattle.refusal.specs.declared.Refusal.the-variants.{BadState, OutOfOrder, TooLarge, NoRoom, BadMark, ShortEntry, CutEntry, NoEntries, IdsUsedUp, BufferSmall, BelowStart, OutsideWindow, BadBatch, Overlap, NotAscending, ValueTooLarge, CeilingReached, BadRaise}
 
 pub number-tells : (r : Refusal) → 1 ≤ numberOf r
 number-tells BadState = omega arith
@@ -22,3 +22,5 @@ number-tells BadBatch = omega arith
 number-tells (Overlap page) = omega arith
 number-tells (NotAscending page) = omega arith
 number-tells ValueTooLarge = omega arith
+number-tells CeilingReached = omega arith
+number-tells BadRaise = omega arith

@@ -3,7 +3,7 @@ use Prim.Native.Nat.{ℕ}
 use mathlib.Core.Path.{_≡_, sym, _∙_}
 use mathlib.Core.List.{List}
 
--- fresh, take, check, recover, find, scan, sequence_new, sequence_complete
+-- fresh, take, raise, check, recover, find, scan, sequence_new, sequence_complete
 pub result-unique : {A : Type 0} (r s promised : A) → r ≡ promised → s ≡ promised → r ≡ s
 result-unique r s promised p q = p ∙ sym q
 

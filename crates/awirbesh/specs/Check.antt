@@ -14,4 +14,4 @@ checkedNumbers (refused number value) = record { number = number; value = value 
 abbrev pub recoveredNumbers : Recovering → RecoveredNumbers
 recoveredNumbers (recovered st excess dropped) = record { number = 0; value = 0; excess = excess; dropped = dropped; state = stateNumbers st }
 recoveredNumbers (unrecovered number value) =
-    record { number = number; value = value; excess = 0; dropped = 0; state = record { length = 0; last = 0; next = 0 } }
+    record { number = number; value = value; excess = 0; dropped = 0; state = record { length = 0; last = 0; next = 0; ceiling = 0 } }

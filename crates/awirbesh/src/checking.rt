@@ -62,6 +62,7 @@ fn recovered_numbers(recovered: Recovered) -> RecoveredNumbers
                 length: 0,
                 last: 0,
                 next: 0,
+                ceiling: 0,
             },
         },
     }
@@ -75,8 +76,8 @@ pub extern "C" fn awirbesh_check(store: &[u8], length: u64) -> CheckedNumbers
 }
 
 #[no_mangle]
-pub extern "C" fn awirbesh_recover(store: &[u8], length: u64) -> RecoveredNumbers
-    ensures { λ r. ⌜ r ≡ recoveredNumbers (recoverOf (now (store .entry)) length) ⌝ }
+pub extern "C" fn awirbesh_recover(store: &[u8], length: u64, stored: u64) -> RecoveredNumbers
+    ensures { λ r. ⌜ r ≡ recoveredNumbers (recoverOf (now (store .entry)) length stored) ⌝ }
 {
-    recovered_numbers(log::recover(store, length))
+    recovered_numbers(log::recover(store, length, stored))
 }

@@ -15,6 +15,7 @@ pub use reading::StartedNumbers;
 pub use reading::SteppedNumbers;
 pub use sequences::NotedNumbers;
 pub use sequences::SequenceNumbers;
+pub use state::RaisedNumbers;
 pub use state::StateNumbers;
 pub use state::TakenNumbers;
 pub use writing::PushedNumbers;

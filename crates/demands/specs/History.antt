@@ -11,6 +11,7 @@ use Rattle.page.specs.Write.{overwritten}
 use Rattle.log.specs.Bounds.{tooLong}
 use Rattle.log.specs.Output.{WithOutput}
 use Rattle.log.specs.State.{stateOf, topId, Taking, taken, refused as untaken, takeOf}
+use Rattle.log.specs.Raise.{Raising, raised, refused as unraised, raiseOf}
 use Rattle.pushing.specs.Push.{Done, pushOf}
 use Rattle.log.specs.Recovery.{Recovering, recovered, refused as unrecovered, recoverOf}
 use Rattle.log.specs.Lookup.{Looking, findOf, lookupOf}
@@ -41,23 +42,25 @@ logOf w = take (w .state .length) (w .store)
 abbrev pub Words : List ℕ → Type 0
 Words ids = (k : ℕ) → getD ids k 0 < 2 ^ 64
 
--- any push, take, find, lookup, scan, step or recovery at the log's length: any batch, id, range, cursor and output; another store, with any bytes after the log;
--- and a cut after n bytes of the log, with any bytes beyond
+-- any push, take, raising, find, lookup, scan, step or recovery at the log's length: any batch, step, id, range, cursor, output and stored ceiling; another store, with any bytes after the log;
+-- and a cut after n bytes of the log, with any bytes beyond and any stored ceiling
 pub data Call : Type 0 where
   push : (ids ends bytes : List ℕ) → Words ids → Call
   take-id : Call
+  raise : (step : ℕ) → Call
   find : (id : ℕ) → Call
   lookup : (id : ℕ) (out : List ℕ) → Call
   scan : (range : Range) → Call
   step-on : (range : Range) (cursor : ℕ) (out : List ℕ) → Call
-  recover : Call
+  recover : (stored : ℕ) → Call
   lend : (rest : List ℕ) → Call
-  cut-log : (n : ℕ) (rest : List ℕ) → Call
+  cut-log : (n stored : ℕ) (rest : List ℕ) → Call
 
 -- what a call answers, and what it leaves in what it is lent, by the definitions that the functions' contracts cite
 pub data Answer : Type 0 where
   pushed : Done → Answer
   handed-out : Taking → Answer
+  raised-to : Raising → Answer
   located : Looking → Answer
   looked-up : WithOutput Looking → Answer
   scan-began : Beginning → Answer
@@ -77,33 +80,40 @@ keptOf w n = take n (logOf w)
 unfoldable pub answer : World → Call → Answer
 answer w (push ids ends bytes words) = pushed (pushOf (w .store) (w .state) ids ends bytes)
 answer w take-id = handed-out (takeOf (w .state))
+answer w (raise by) = raised-to (raiseOf (w .state) by)
 answer w (find id) = located (findOf (w .store) (w .state) id)
 answer w (lookup id out) = looked-up (lookupOf (w .store) (w .state) id out)
 answer w (scan range) = scan-began (scanOf (w .store) (w .state) range)
 answer w (step-on range cursor out) = stepped (stepOf (w .store) (w .state) range cursor out)
-answer w recover = restored (recoverOf (w .store) (w .state .length))
+answer w (recover stored) = restored (recoverOf (w .store) (w .state .length) stored)
 answer w (lend rest) = lent (anotherStore w rest)
-answer w (cut-log n rest) = reopened (keptOf w n ++ rest) (recoverOf (keptOf w n ++ rest) (length (keptOf w n)))
+answer w (cut-log n stored rest) = reopened (keptOf w n ++ rest) (recoverOf (keptOf w n ++ rest) (length (keptOf w n)) stored)
 
 -- the state after an id was asked for: 3.2 "a refusal leaves the state"
 abbrev pub stateAfterTake : State → Taking → State
 stateAfterTake st (taken id state) = state
 stateAfterTake st (untaken number value) = st
 
+-- after a raising
+abbrev pub stateAfterRaise : State → Raising → State
+stateAfterRaise st (raised state) = state
+stateAfterRaise st (unraised number value) = st
+
 -- and after a recovery
 abbrev pub stateAfterRecovery : State → Recovering → State
 stateAfterRecovery st (recovered state excess dropped) = state
 stateAfterRecovery st (unrecovered number value) = st
 
--- 11 "the state is the one that recovery gives there. A cut after which recovery gives none, by 1 or by 9, is not gone on with"
+-- 11 "the state is the one that recovery gives there, with any stored ceiling. A cut after which recovery gives none, by 1 or by 9, is not gone on with"
 abbrev pub afterCut : World → List ℕ → Recovering → World
 afterCut w store (recovered state excess dropped) = world store state
 afterCut w store (unrecovered number value) = w
 
--- the world after an answer: a push leaves a store and a state, taking and recovering a state, lending another one a store, a cut both; a lookup and a scan are lent the store to read alone
+-- the world after an answer: a push leaves a store and a state, taking, raising and recovering a state, lending another one a store, a cut both; a lookup and a scan are lent the store to read alone
 abbrev pub after : World → Answer → World
 after w (pushed r) = world (r .store) (r .answer .state)
 after w (handed-out r) = world (w .store) (stateAfterTake (w .state) r)
+after w (raised-to r) = world (w .store) (stateAfterRaise (w .state) r)
 after w (located r) = w
 after w (looked-up r) = w
 after w (scan-began r) = w
@@ -133,12 +143,13 @@ said w (c ∷ cs) = record { call = c; reply = answer w c } ∷ said (step w c) 
 
 -- ---- where a history begins
 
--- 11 "from the state that recovery gives on, if the log that is left is sound": of so many bytes of the store
+-- 11 "from the state that recovery gives on, if the log that is left is sound": of so many bytes of the store, with a stored ceiling
 pub record Begun (w : World) : Type 0 where
   pub size : ℕ
+  pub stored : ℕ
   pub excess : ℕ
   pub dropped : ℕ
-  pub is : recoverOf (w .store) size ≡ recovered (w .state) excess dropped
+  pub is : recoverOf (w .store) size stored ≡ recovered (w .state) excess dropped
   pub sound : Sound (logOf w)
 
 -- ---- cuts that spare the first bytes of the log
@@ -147,13 +158,14 @@ pub record Begun (w : World) : Type 0 where
 abbrev pub Spares : ℕ → Call → Type 0
 Spares bytes (push ids ends d words) = Unit {0}
 Spares bytes take-id = Unit {0}
+Spares bytes (raise by) = Unit {0}
 Spares bytes (find id) = Unit {0}
 Spares bytes (lookup id out) = Unit {0}
 Spares bytes (scan range) = Unit {0}
 Spares bytes (step-on range cursor out) = Unit {0}
-Spares bytes recover = Unit {0}
+Spares bytes (recover stored) = Unit {0}
 Spares bytes (lend rest) = Unit {0}
-Spares bytes (cut-log n rest) = bytes ≤ n
+Spares bytes (cut-log n stored rest) = bytes ≤ n
 
 -- and so does every cut of a sequence
 abbrev pub AllSpare : ℕ → List Call → Type 0
@@ -193,13 +205,14 @@ pub record Locates (r : Answer) (s : Standing) : Type 0 where
 abbrev pub Gives : Call → Answer → ℕ → Standing → List ℕ → Type 0
 Gives (push ids ends bytes words) r id s d = Unit {0}
 Gives take-id r id s d = Unit {0}
+Gives (raise by) r id s d = Unit {0}
 Gives (find i) r id s d = i ≡ id → Locates r s
 Gives (lookup i out) r id s d = i ≡ id → length d ≤ length out → LooksUp r s (overwritten out d)
 Gives (scan range) r id s d = Unit {0}
 Gives (step-on range cursor out) r id s d = Unit {0}
-Gives recover r id s d = Unit {0}
+Gives (recover stored) r id s d = Unit {0}
 Gives (lend rest) r id s d = Unit {0}
-Gives (cut-log n rest) r id s d = Unit {0}
+Gives (cut-log n stored rest) r id s d = Unit {0}
 
 -- and so does every call that is made now
 abbrev pub Answers : World → ℕ → Standing → List ℕ → Type 0
@@ -221,7 +234,7 @@ pub record Keeps (w : World) (id : ℕ) (s : Standing) (d : List ℕ) : Type 0 w
 pub record KeepsFull (w : World) (n : ℕ) (rest : List ℕ) (id : ℕ) (s : Standing) (d : List ℕ) (bytes : ℕ) : Type 0 where
   pub left : ℕ
   pub is-left : Left (logOf w) (length (keptOf w n) / pageSize) left
-  pub keeps : (later : List Call) → AllSpare bytes later → Keeps (run (world (keptOf w n ++ rest) (stateOf (left * pageSize) topId topId)) later) id s d
+  pub keeps : (later : List Call) → AllSpare bytes later → Keeps (run (world (keptOf w n ++ rest) (stateOf (left * pageSize) topId topId topId)) later) id s d
 
 -- 11.10 "gives what the first one gave": that is chosen before any later call is; every later call keeps it, and every later lookup gave it,
 -- 11.10 "as long as no cut falls below the length that the log had when the id was settled"
@@ -230,8 +243,8 @@ pub record KeepsFirst (w : World) (id : ℕ) : Type 0 where
   pub data-is : List ℕ
   pub kept : (later : List Call) → AllSpare (w .state .length) later → Keeps (run w later) id stands data-is
   pub gave : (later : List Call) → AllSpare (w .state .length) later → (x : Said) → List·Memᴰ x (said w later) → Gives (x .call) (x .reply) id stands data-is
-  pub full : (later : List Call) → AllSpare (w .state .length) later → (n : ℕ) (rest : List ℕ) → w .state .length ≤ n
-      → recoverOf (keptOf (run w later) n ++ rest) (length (keptOf (run w later) n)) ≡ unrecovered 9 0 → id < topId → KeepsFull (run w later) n rest id stands data-is (w .state .length)
+  pub full : (later : List Call) → AllSpare (w .state .length) later → (n stored : ℕ) (rest : List ℕ) → w .state .length ≤ n
+      → recoverOf (keptOf (run w later) n ++ rest) (length (keptOf (run w later) n)) stored ≡ unrecovered 9 0 → id < topId → KeepsFull (run w later) n rest id stands data-is (w .state .length)
 
 -- ---- reading back
 

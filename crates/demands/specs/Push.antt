@@ -20,7 +20,7 @@ batchPages ids ends bytes (suc n) = batchPages ids ends bytes n ++ entryPages (g
 abbrev pub logAfter : Done → List ℕ
 logAfter r = take (r .answer .state .length) (r .store)
 
--- on any input: 4.6 "No byte but those of the pages added changes, and next never moves"
+-- on any input: 4.6 "No byte but those of the pages added changes, and next and the ceiling never move"
 pub record Grown (store : List ℕ) (st : State) (ids ends bytes : List ℕ) (r : Done) : Type 0 where
   -- 11.3 "the pages of exactly the entries that it counts": the log after is the log before and then the pages of the entries counted
   pub log : logAfter r ≡ take (st .length) store ++ batchPages ids ends bytes (r .answer .written)
@@ -28,6 +28,7 @@ pub record Grown (store : List ℕ) (st : State) (ids ends bytes : List ℕ) (r 
   pub after : drop (r .answer .state .length) (r .store) ≡ drop (r .answer .state .length) store
   pub size : length (r .store) ≡ length store
   pub next : r .answer .state .next ≡ st .next
+  pub ceiling : r .answer .state .ceiling ≡ st .ceiling
 
 -- a push: the store and the state that it is given, and the batch
 pub record Push : Type 0 where

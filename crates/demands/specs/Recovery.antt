@@ -10,18 +10,19 @@ use Rattle.page.specs.Size.{pageSize, pageCount}
 use Rattle.page.specs.Mark.{markAt, byMark}
 use Rattle.page.specs.Entry.{Starting, short, cut, whole, idAt, afterAt, entryAt}
 use Rattle.log.specs.Bounds.{tooLong}
-use Rattle.log.specs.State.{fresh, recoveredAt, topId}
-use Rattle.log.specs.Recovery.{Recovering, recovered, refused, atWhole, firstPages, excessOf, wholePages}
+use Rattle.log.specs.State.{fresh, recoveredAt, resumedAbove, topId}
+use Rattle.log.specs.Recovery.{Recovering, recovered, refused, atWhole, firstPages, excessOf, wholePages, aboveStored}
 use Rattle.log.specs.declared.state.State.{State}
 use Rattle.demands.specs.Sound.{Start, Sound, Last, LastStored}
 use Rattle.demands.specs.Push.{Push, outcome, Counted, endsAt, logWith, lastOf}
 
--- 11.4 "the log's length, its last stored id and one more, with the excess; 9 exactly if that id is 2^64-1, the fresh state exactly if no page is left":
--- of a log, after so many pages were dropped
-pub data RightRecovery (log : List ℕ) (excess dropped : ℕ) : Recovering → Type 0 where
-  empty : length log ≡ 0 → RightRecovery log excess dropped (recovered fresh excess dropped)
-  used-up : (p : ℕ) → Last log p → idAt log p ≡ topId → RightRecovery log excess dropped (refused 9 0)
-  goes-on : (p : ℕ) → Last log p → (idAt log p ≡ topId → ⊥) → RightRecovery log excess dropped (recovered (recoveredAt (length log) (idAt log p)) excess dropped)
+-- 11.4 "the log's length, its last stored id, 0 if there is none, and for next and the ceiling one more, or the stored ceiling if that is greater, with the excess; 9 exactly if that id is 2^64-1":
+-- of a log, with a stored ceiling, after so many pages were dropped
+pub data RightRecovery (log : List ℕ) (stored excess dropped : ℕ) : Recovering → Type 0 where
+  empty : length log ≡ 0 → RightRecovery log stored excess dropped (recovered (resumedAbove stored fresh) excess dropped)
+  used-up : (p : ℕ) → Last log p → idAt log p ≡ topId → RightRecovery log stored excess dropped (refused 9 0)
+  goes-on : (p : ℕ) → Last log p → (idAt log p ≡ topId → ⊥)
+      → RightRecovery log stored excess dropped (recovered (resumedAbove stored (recoveredAt (length log) (idAt log p))) excess dropped)
 
 -- ---- a cut
 
@@ -34,16 +35,16 @@ pub record Left (log : List ℕ) (m left : ℕ) : Type 0 where
   pub edge : (left ≡ m) ⊎ Start log left
 
 -- 11.4 "Recovery of any fewer bytes of the log .. gives the same of what is left": of n bytes
-pub record RightCut (log : List ℕ) (n : ℕ) (r : Recovering) : Type 0 where
+pub record RightCut (log : List ℕ) (n stored : ℕ) (r : Recovering) : Type 0 where
   pub left : ℕ
   pub is-left : Left log (n / pageSize) left
   pub sound : Sound (firstPages log left)
-  pub right : RightRecovery (firstPages log left) (excessOf n) (n / pageSize - left) r
+  pub right : RightRecovery (firstPages log left) stored (excessOf n) (n / pageSize - left) r
 
 -- ---- a cut in a push
 
 -- 11.7 "the log is then cut at any byte from its length before the push on": at byte n; the store then, and what recovery answers there
-pub record Torn (q : Push) (n : ℕ) (store : List ℕ) (r : Recovering) : Type 0 where
+pub record Torn (q : Push) (n stored : ℕ) (store : List ℕ) (r : Recovering) : Type 0 where
   pub kept : ℕ
   pub counted : kept ≤ outcome q .answer .written
   -- 11.7 "exactly those entries of the batch whose pages all lie before the cut"
@@ -56,8 +57,8 @@ pub record Torn (q : Push) (n : ℕ) (store : List ℕ) (r : Recovering) : Type 
   -- 11.7 "excess and dropped pages add up to the cut"
   pub dropped : ℕ
   pub adds-up : length (logWith q kept) + dropped * pageSize + excessOf n ≡ n
-  -- 11.7 "next is one more .. unless that id is 2^64-1 and 9 is answered"
-  pub is : r ≡ atWhole (length (logWith q kept)) (lastOf (q .state) (q .ids) kept) (excessOf n) dropped
+  -- 11.7 "next and the ceiling are one more, or the stored ceiling if that is greater .. unless that id is 2^64-1 and 9 is answered"
+  pub is : r ≡ aboveStored stored (atWhole (length (logWith q kept)) (lastOf (q .state) (q .ids) kept) (excessOf n) dropped)
 
 -- ---- which pages are read
 
@@ -86,6 +87,6 @@ unfoldable pub strictBack : ℕ → List ℕ → ℕ → Recovering
 strictBack excess log zero = pick (eqb (pageCount log) 0) (recovered fresh excess 0) (refused 8 0)
 strictBack excess log (suc p) = byMark (markAt log p) (strictAt (length log) excess p (entryAt log p)) (strictBack excess log p) (refused 5 p)
 
--- of so many bytes of a store
-unfoldable pub strictOf : List ℕ → ℕ → Recovering
-strictOf store n = pick (tooLong store n) (refused 1 0) (strictBack (excessOf n) (wholePages store n) (pageCount (wholePages store n)))
+-- of so many bytes of a store, with a stored ceiling
+unfoldable pub strictOf : List ℕ → ℕ → ℕ → Recovering
+strictOf store n stored = pick (tooLong store n) (refused 1 0) (aboveStored stored (strictBack (excessOf n) (wholePages store n) (pageCount (wholePages store n))))

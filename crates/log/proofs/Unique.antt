@@ -6,6 +6,7 @@ use mathlib.Core.List.{List}
 use native.Mathlib.Omega.{arith}
 use Rattle.refusal.proofs.Unique.{refusal-unique, by-paper}
 use Rattle.log.specs.State.{fresh, movedTo, takeOf, paperTaken}
+use Rattle.log.specs.Raise.{raiseOf, paperRaised}
 use Rattle.log.specs.Bounds.{badState, badCursor}
 use Rattle.log.specs.Recovery.{recoverOf, paperRecovered}
 use Rattle.log.specs.Check.{checkOf, paperChecked}
@@ -14,6 +15,8 @@ use Rattle.log.specs.Lookup.{Looking, findOf, lookupOf, paperLook}
 use Rattle.log.specs.declared.state.State.{State}
 use Rattle.log.specs.declared.state.Taken.{Taken}
 use Rattle.log.specs.declared.state.Taken.the-variants.{Id, Refused as Untaken}
+use Rattle.log.specs.declared.state.Raised.{Raised}
+use Rattle.log.specs.declared.state.Raised.the-variants.{To, Refused as Unraised}
 use Rattle.log.specs.declared.recovery.Recovered.{Recovered}
 use Rattle.log.specs.declared.recovery.Recovered.the-variants.{At as RecoveredAt, Refused as Unrecovered}
 use Rattle.log.specs.declared.checking.Checked.{Checked}
@@ -28,6 +31,12 @@ taken-unique (Id id st) (Id id′ st′) e = cc
 taken-unique (Id id st) (Untaken r′) e = absurd (let z : _≡_ {A = ℕ} 0 1 = cc in omega arith)
 taken-unique (Untaken r) (Id id′ st′) e = absurd (let z : _≡_ {A = ℕ} 0 1 = cc in omega arith)
 taken-unique (Untaken r) (Untaken r′) e = ap Untaken (refusal-unique r r′ (cc) (cc))
+
+pub raised-unique : (r s : Raised) → paperRaised r ≡ paperRaised s → r ≡ s
+raised-unique (To st) (To st′) e = cc
+raised-unique (To st) (Unraised r′) e = absurd (let z : _≡_ {A = ℕ} 0 1 = cc in omega arith)
+raised-unique (Unraised r) (To st′) e = absurd (let z : _≡_ {A = ℕ} 0 1 = cc in omega arith)
+raised-unique (Unraised r) (Unraised r′) e = ap Unraised (refusal-unique r r′ (cc) (cc))
 
 pub checked-unique : (r s : Checked) → paperChecked r ≡ paperChecked s → r ≡ s
 checked-unique Sound Sound e = refl
@@ -69,11 +78,14 @@ bad-cursor-unique n cursor r s p q = p ∙ sym q
 pub take-unique : (st : State) (r s : Taken) → paperTaken r ≡ takeOf st → paperTaken s ≡ takeOf st → r ≡ s
 take-unique st = by-paper paperTaken taken-unique (takeOf st)
 
+pub raise-unique : (st : State) (step : ℕ) (r s : Raised) → paperRaised r ≡ raiseOf st step → paperRaised s ≡ raiseOf st step → r ≡ s
+raise-unique st step = by-paper paperRaised raised-unique (raiseOf st step)
+
 pub check-unique : (store : List ℕ) (n : ℕ) (r s : Checked) → paperChecked r ≡ checkOf store n → paperChecked s ≡ checkOf store n → r ≡ s
 check-unique store n = by-paper paperChecked checked-unique (checkOf store n)
 
-pub recover-unique : (store : List ℕ) (n : ℕ) (r s : Recovered) → paperRecovered r ≡ recoverOf store n → paperRecovered s ≡ recoverOf store n → r ≡ s
-recover-unique store n = by-paper paperRecovered recovered-unique (recoverOf store n)
+pub recover-unique : (store : List ℕ) (n stored : ℕ) (r s : Recovered) → paperRecovered r ≡ recoverOf store n stored → paperRecovered s ≡ recoverOf store n stored → r ≡ s
+recover-unique store n stored = by-paper paperRecovered recovered-unique (recoverOf store n stored)
 
 module _ (store : List ℕ) (st : State) where
   pub find-unique : (id : ℕ) (r s : Look) → paperLook r ≡ findOf store st id → paperLook s ≡ findOf store st id → r ≡ s

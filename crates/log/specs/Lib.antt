@@ -1,6 +1,7 @@
 pub mod Round
 pub mod Output
 pub mod State
+pub mod Raise
 pub mod Bounds
 pub mod Recovery
 pub mod Check

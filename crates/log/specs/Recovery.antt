@@ -9,7 +9,7 @@ use Rattle.page.specs.Size.{pageSize, pageCount}
 use Rattle.page.specs.Mark.{markAt, byMark}
 use Rattle.page.specs.Entry.{Starting, short, cut, whole, entryAt}
 use Rattle.log.specs.Bounds.{tooLong}
-use Rattle.log.specs.State.{fresh, recoveredAt, topId}
+use Rattle.log.specs.State.{fresh, recoveredAt, resumedAbove, topId}
 use Rattle.log.specs.declared.state.State.{State}
 use Rattle.log.specs.declared.recovery.Recovered.{Recovered}
 use Rattle.log.specs.declared.recovery.Recovered.the-variants.{At, Refused}
@@ -24,7 +24,7 @@ abbrev pub paperRecovered : Recovered → Recovering
 paperRecovered (At state excess dropped) = recovered state excess dropped
 paperRecovered (Refused r) = refused (numberOf r) (valueOf r)
 
--- 6.6 "9 if its id is 2^64-1. The state is the length that is left, the id, and the id + 1": of n bytes that are left
+-- 6.6 "9 if its id is 2^64-1. The state is the length that is left, the id": of n bytes that are left
 unfoldable pub atWhole : ℕ → ℕ → ℕ → ℕ → Recovering
 atWhole n id excess dropped = pick (eqb id topId) (refused 9 0) (recovered (recoveredAt n id) excess dropped)
 
@@ -60,6 +60,11 @@ wholePages store n = take (n - excessOf n) store
 unfoldable pub recoverLog : List ℕ → ℕ → Recovering
 recoverLog log excess = walkBack (pageCount log) excess log (pageCount log)
 
--- 6.1 "1 if it is above the store's size, or the store is too long"; 6.2 "the excess, are cut off, and their count is reported"
-unfoldable pub recoverOf : List ℕ → ℕ → Recovering
-recoverOf store n = pick (tooLong store n) (refused 1 0) (recoverLog (wholePages store n) (excessOf n))
+-- 6.8 "next becomes the larger of itself and the stored ceiling, and the ceiling is next": where there is a state
+abbrev pub aboveStored : ℕ → Recovering → Recovering
+aboveStored stored (recovered st excess dropped) = recovered (resumedAbove stored st) excess dropped
+aboveStored stored (refused number value) = refused number value
+
+-- 6.1 "1 if the length is above the store's size, or the store is too long"; 6.2 "the excess, are cut off, and their count is reported"
+unfoldable pub recoverOf : List ℕ → ℕ → ℕ → Recovering
+recoverOf store n stored = pick (tooLong store n) (refused 1 0) (aboveStored stored (recoverLog (wholePages store n) (excessOf n)))

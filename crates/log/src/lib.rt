@@ -14,5 +14,6 @@ pub use recovery::recover;
 pub use searching::Look;
 pub use searching::find;
 pub use searching::lookup;
+pub use state::Raised;
 pub use state::State;
 pub use state::Taken;

@@ -9,7 +9,7 @@ ghost use mathlib.Core.Path.{_≡_};
 ghost use Prim.Native.Nat.{_%_};
 ghost use lib.ListN.{length};
 ghost use Rattle.page.specs.Size.{pageSize};
-ghost use Rattle.log.specs.Recovery.{paperRecovered, atWhole, recoverLog, recoverOf};
+ghost use Rattle.log.specs.Recovery.{paperRecovered, atWhole, aboveStored, recoverLog, recoverOf};
 
 // The state, the size of the excess that was cut off and the count of pages dropped, or a refusal.
 pub enum Recovered {
@@ -86,14 +86,32 @@ fn walk_back(log: &[u8], excess: u64) -> Recovered
     }
 }
 
-// The state of the log in the first `length` bytes of a store.
-pub fn recover(store: &[u8], length: u64) -> Recovered
-    ensures { λ r. ⌜ paperRecovered r ≡ recoverOf (now (store .entry)) length ⌝ }
+// What the walk came to, its state above the ceiling that was stored.
+fn above(recovered: Recovered, stored: u64) -> Recovered
+    ensures { λ r. ⌜ paperRecovered r ≡ aboveStored stored (paperRecovered recovered) ⌝ }
+{
+    match recovered {
+        Recovered::At {
+            state,
+            excess,
+            dropped,
+        } => Recovered::At {
+            state: state.above(stored),
+            excess,
+            dropped,
+        },
+        Recovered::Refused(refusal) => Recovered::Refused(refusal),
+    }
+}
+
+// The state of the log in the first `length` bytes of a store, where this ceiling was stored.
+pub fn recover(store: &[u8], length: u64, stored: u64) -> Recovered
+    ensures { λ r. ⌜ paperRecovered r ≡ recoverOf (now (store .entry)) length stored ⌝ }
 {
     if bounds::is_too_long(store, length) {
         return Recovered::Refused(Refusal::BadState);
     }
     let n = length as usize;
     let excess = n % Page::SIZE;
-    walk_back(&store[..n - excess], excess as u64)
+    above(walk_back(&store[..n - excess], excess as u64), stored)
 }

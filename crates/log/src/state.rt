@@ -1,19 +1,43 @@
-// The state: how long the log is, the id written last, and the id to hand out next.
+// The state: how long the log is, the id written last, the id to hand out next, and the ceiling below which ids are handed out.
 use refusal::Refusal;
 ghost use mathlib.Core.Path.{_≡_};
 ghost use Prim.Native.Nat.{_<_, _+_, _^_};
-ghost use Rattle.log.specs.State.{fresh, recoveredAt, movedTo, takeOf, paperTaken};
+ghost use Rattle.log.specs.State.{fresh, recoveredAt, resumedAbove, movedTo, takeOf, paperTaken};
+ghost use Rattle.log.specs.Raise.{badStep, raiseOf, paperRaised};
 
 pub struct State {
     pub length: u64,
     pub last: u64,
     pub next: u64,
+    pub ceiling: u64,
 }
 
 // An id handed out with the state after it, or a refusal that changes nothing.
 pub enum Taken {
     Id { id: u64, state: State },
     Refused(Refusal),
+}
+
+// The state with a higher ceiling, to be stored before it is used, or a refusal that changes nothing.
+pub enum Raised {
+    To { state: State },
+    Refused(Refusal),
+}
+
+// The most by which a ceiling is raised.
+const MOST_RAISED: u64 = 0x1_0000_0000;
+
+// The step is 0 or too large, or the ceiling cannot grow by it.
+fn is_bad_step(ceiling: u64, step: u64) -> bool
+    ensures { λ r. ⌜ r ≡ badStep ceiling step ⌝ }
+{
+    if step == 0 {
+        return true;
+    }
+    if MOST_RAISED < step {
+        return true;
+    }
+    0xffff_ffff_ffff_ffff - ceiling < step
 }
 
 impl State {
@@ -25,6 +49,7 @@ impl State {
             length: 0,
             last: 0,
             next: 1,
+            ceiling: 1,
         }
     }
 
@@ -33,10 +58,28 @@ impl State {
         requires { ⌜ id + 1 < 2 ^ 64 ⌝ }
         ensures { λ r. ⌜ r ≡ recoveredAt length id ⌝ }
     {
+        let next = id + 1;
         State {
             length,
             last: id,
-            next: id + 1,
+            next,
+            ceiling: next,
+        }
+    }
+
+    // The state to go on with where this ceiling was stored.
+    pub(crate) fn above(self, stored: u64) -> State
+        ensures { λ r. ⌜ r ≡ resumedAbove stored self ⌝ }
+    {
+        let mut next = self.next;
+        if next < stored {
+            next = stored;
+        }
+        State {
+            length: self.length,
+            last: self.last,
+            next,
+            ceiling: next,
         }
     }
 
@@ -48,6 +91,7 @@ impl State {
             length,
             last,
             next: self.next,
+            ceiling: self.ceiling,
         }
     }
 
@@ -56,8 +100,12 @@ impl State {
         ensures { λ r. ⌜ paperTaken r ≡ takeOf self ⌝ }
     {
         let next = self.next;
+        let ceiling = self.ceiling;
         if next == 0xffff_ffff_ffff_ffff {
             return Taken::Refused(Refusal::IdsUsedUp);
+        }
+        if next >= ceiling {
+            return Taken::Refused(Refusal::CeilingReached);
         }
         Taken::Id {
             id: next,
@@ -65,6 +113,25 @@ impl State {
                 length: self.length,
                 last: self.last,
                 next: next + 1,
+                ceiling,
+            },
+        }
+    }
+
+    // Raises the ceiling by a step.
+    pub fn raise(self, step: u64) -> Raised
+        ensures { λ r. ⌜ paperRaised r ≡ raiseOf self step ⌝ }
+    {
+        let ceiling = self.ceiling;
+        if is_bad_step(ceiling, step) {
+            return Raised::Refused(Refusal::BadRaise);
+        }
+        Raised::To {
+            state: State {
+                length: self.length,
+                last: self.last,
+                next: self.next,
+                ceiling: ceiling + step,
             },
         }
     }

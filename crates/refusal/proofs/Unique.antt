@@ -5,7 +5,7 @@ use lib.Dec.{eqb}
 use Rattle.refusal.specs.Pick.{pick}
 use Rattle.refusal.specs.Refusal.{numberOf, valueOf}
 use Rattle.refusal.specs.declared.Refusal.{Refusal}
-use Rattle.refusal.specs.declared.Refusal.the-variants.{BadState, OutOfOrder, TooLarge, NoRoom, BadMark, ShortEntry, CutEntry, NoEntries, IdsUsedUp, BufferSmall, BelowStart, OutsideWindow, BadBatch, Overlap, NotAscending, ValueTooLarge}
+use Rattle.refusal.specs.declared.Refusal.the-variants.{BadState, OutOfOrder, TooLarge, NoRoom, BadMark, ShortEntry, CutEntry, NoEntries, IdsUsedUp, BufferSmall, BelowStart, OutsideWindow, BadBatch, Overlap, NotAscending, ValueTooLarge, CeilingReached, BadRaise}
 
 -- the refusal with a number and a value
 fromPaper : ℕ → ℕ → Refusal
@@ -25,7 +25,9 @@ fromPaper n v =
     pick (eqb n 13) BadBatch (
     pick (eqb n 14) (Overlap v) (
     pick (eqb n 15) (NotAscending v) (
-    ValueTooLarge)))))))))))))))
+    pick (eqb n 16) ValueTooLarge (
+    pick (eqb n 30) CeilingReached (
+    BadRaise)))))))))))))))))
 
 back : (r : Refusal) → fromPaper (numberOf r) (valueOf r) ≡ r
 unfolding fromPaper
@@ -45,6 +47,8 @@ back BadBatch = refl
 back (Overlap page) = refl
 back (NotAscending page) = refl
 back ValueTooLarge = refl
+back CeilingReached = refl
+back BadRaise = refl
 
 pub refusal-unique : (r s : Refusal) → numberOf r ≡ numberOf s → valueOf r ≡ valueOf s → r ≡ s
 refusal-unique r s n v = cc (back r, back s)

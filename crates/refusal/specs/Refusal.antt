@@ -1,7 +1,7 @@
 -- Rules 3, "Refusals": the table.
 use Prim.Native.Nat.{ℕ}
 use Rattle.refusal.specs.declared.Refusal.{Refusal}
-use Rattle.refusal.specs.declared.Refusal.the-variants.{BadState, OutOfOrder, TooLarge, NoRoom, BadMark, ShortEntry, CutEntry, NoEntries, IdsUsedUp, BufferSmall, BelowStart, OutsideWindow, BadBatch, Overlap, NotAscending, ValueTooLarge}
+use Rattle.refusal.specs.declared.Refusal.the-variants.{BadState, OutOfOrder, TooLarge, NoRoom, BadMark, ShortEntry, CutEntry, NoEntries, IdsUsedUp, BufferSmall, BelowStart, OutsideWindow, BadBatch, Overlap, NotAscending, ValueTooLarge, CeilingReached, BadRaise}
 
 -- the column "no."
 abbrev pub numberOf : Refusal → ℕ
@@ -21,6 +21,8 @@ numberOf BadBatch = 13
 numberOf (Overlap page) = 14
 numberOf (NotAscending page) = 15
 numberOf ValueTooLarge = 16
+numberOf CeilingReached = 30
+numberOf BadRaise = 31
 
 -- the column "value": a page for 5 to 8, 14 and 15, for 10 the "length needed", and nothing for the others, which is 0 here
 abbrev pub valueOf : Refusal → ℕ
@@ -40,3 +42,5 @@ valueOf BadBatch = 0
 valueOf (Overlap page) = page
 valueOf (NotAscending page) = page
 valueOf ValueTooLarge = 0
+valueOf CeilingReached = 0
+valueOf BadRaise = 0

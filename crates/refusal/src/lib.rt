@@ -19,6 +19,8 @@ pub enum Refusal {
     Overlap { page: u64 },
     NotAscending { page: u64 },
     ValueTooLarge,
+    CeilingReached,
+    BadRaise,
 }
 
 impl Refusal {
@@ -43,6 +45,8 @@ impl Refusal {
             Refusal::Overlap { page: _ } => 14,
             Refusal::NotAscending { page: _ } => 15,
             Refusal::ValueTooLarge => 16,
+            Refusal::CeilingReached => 30,
+            Refusal::BadRaise => 31,
         }
     }
 
@@ -67,6 +71,8 @@ impl Refusal {
             Refusal::Overlap { page } => page,
             Refusal::NotAscending { page } => page,
             Refusal::ValueTooLarge => 0,
+            Refusal::CeilingReached => 0,
+            Refusal::BadRaise => 0,
         }
     }
 }

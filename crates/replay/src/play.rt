@@ -60,6 +60,7 @@ fn state_of(w: World) -> State {
         length: w.length,
         last: w.last,
         next: w.next,
+        ceiling: w.next,
     }
 }
 
@@ -273,7 +274,7 @@ pub fn recover(w: World, l: Line, store: &[u8]) -> World {
     if 65536 < length {
         return judged(w, false);
     }
-    let recovered = log::recover(store, length + excess);
+    let recovered = log::recover(store, length + excess, 0);
     match recovered {
         Recovered::At {
             state,
@@ -281,7 +282,8 @@ pub fn recover(w: World, l: Line, store: &[u8]) -> World {
             dropped,
         } => {
             let numbers = state.length == l.b && state.last == l.c && state.next == l.d;
-            judged(w, cut == excess && dropped == 0 && numbers)
+            let ceiling = state.ceiling == l.d;
+            judged(w, cut == excess && dropped == 0 && numbers && ceiling)
         }
         Recovered::Refused(_) => judged(w, false),
     }
@@ -317,11 +319,13 @@ pub fn note(w: World, l: Line, words: &mut [u64; 64]) -> World {
     }
 }
 
+// The Rust has no ceiling: the highest stands in for it.
 pub fn take(w: World, l: Line) -> World {
     let before = State {
         length: 0,
         last: 0,
         next: l.a,
+        ceiling: 0xffff_ffff_ffff_ffff,
     };
     let taken = before.take();
     match taken {

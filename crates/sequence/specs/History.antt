@@ -1,4 +1,4 @@
--- Rules 11, "What is promised", 11.11: a sequence from its first start on, through any notes, refused ones among them.
+-- Rules 11, "What is promised", 11.12: a sequence from its first start on, through any notes, refused ones among them.
 use Prim.Native.Nat.{ℕ, _≤_, _<_}
 use mathlib.Core.Path.{_≡_}
 use mathlib.Core.Bool.{true}
@@ -39,17 +39,17 @@ run h (id ∷ notes) = run (step h id) notes
 abbrev pub In : ℕ → List ℕ → Type 0
 In id ids = List·Memᴰ id ids
 
--- 11.11 "no id from the first start to the highest noted is missing": to any noted id, so to the highest
+-- 11.12 "no id from the first start to the highest noted is missing": to any noted id, so to the highest
 abbrev pub NoGap : ℕ → List ℕ → Type 0
 NoGap first ids = (i highest : ℕ) → In highest ids → first ≤ i → i ≤ highest → In i ids
 
 -- of a sequence as it is after some notes, and after any later ones
 pub record RightSequence (first : ℕ) (now later : History) : Type 0 where
-  -- 11.11 "Complete is yes exactly if no id from the first start to the highest noted is missing"
+  -- 11.12 "Complete is yes exactly if no id from the first start to the highest noted is missing"
   pub complete : (completeOf (now .sequence) ≡ true) ↔ NoGap first (now .ids)
-  -- 11.11 "Start never falls"
+  -- 11.12 "Start never falls"
   pub start-rises : now .sequence .start ≤ later .sequence .start
-  -- 11.11 "and never passes an id that is not noted"
+  -- 11.12 "and never passes an id that is not noted"
   pub start-passes : (i : ℕ) → first ≤ i → i < now .sequence .start → In i (now .ids)
-  -- 11.11 "and it stays noted"
+  -- 11.12 "and it stays noted"
   pub accepted-stays : (i : ℕ) → In i (now .ids) → Known (later .sequence .after) (later .sequence .start) (later .words) i

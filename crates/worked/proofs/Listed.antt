@@ -10,7 +10,8 @@ use Rattle.page.specs.Mark.{markAt}
 use Rattle.page.specs.Entry.{lengthAt, idAt, entryAt}
 use Rattle.page.specs.Write.{filled, firstPage, laterPage, laterPages, entryPages}
 use Rattle.log.specs.Bounds.{tooLong, badState}
-use Rattle.log.specs.State.{fresh, stateOf}
+use Rattle.log.specs.State.{fresh, stateOf, Taking, taken, refused as untaken, takeOf}
+use Rattle.log.specs.Raise.{Raising, raised, refused as unraised, badStep, raiseOf}
 use Rattle.log.specs.Guess.{leastFrom, leastShift, offsetOf}
 use Rattle.log.specs.Lookup.{Looking, found, absent, refused, allPages, guessIn, compared, sayingAt, turned, walk, search, searchOf, findOf}
 use Rattle.log.specs.Recovery.{Recovering, recovered, refused as unrecovered, atWhole, atStart, walkBack, recoverLog, recoverOf}
@@ -23,7 +24,7 @@ use Rattle.sequence.specs.History.{begun, answered, run}
 -- ---- answers as numbers
 
 ofState : State → List ℕ
-ofState st = st .length ∷ st .last ∷ st .next ∷ []
+ofState st = st .length ∷ st .last ∷ st .next ∷ st .ceiling ∷ []
 
 -- 1, position and data length; 0 and position; or 2, number and value
 ofLook : Looking → List ℕ
@@ -43,6 +44,16 @@ ofPush r = ofWhy (r .answer .reason) ∷ r .answer .written ∷ ofState (r .answ
 ofRecovery : Recovering → List ℕ
 ofRecovery (recovered st excess dropped) = excess ∷ dropped ∷ ofState st
 ofRecovery (unrecovered number value) = number ∷ value ∷ []
+
+-- the id and the state; or number and value
+ofTake : Taking → List ℕ
+ofTake (taken id st) = id ∷ ofState st
+ofTake (untaken number value) = number ∷ value ∷ []
+
+-- the state; or number and value
+ofRaise : Raising → List ℕ
+ofRaise (raised st) = ofState st
+ofRaise (unraised number value) = number ∷ value ∷ []
 
 -- complete: 1 for yes, 0 for no
 ofAnswer : Bool → ℕ
@@ -74,6 +85,13 @@ ninePage = entryPages 9 hello ++ replicate 6 0
 abbrev longPush : Done
 longPush = pushOf (replicate 4096 0) fresh (1 ∷ 2 ∷ []) (5 ∷ 2997 ∷ []) (hello ++ replicate 2992 0x78)
 
+-- the fresh state raised by 2, and (1, "hello") pushed once 1 and 2 are taken
+abbrev raisedTwo : State
+raisedTwo = stateOf 0 0 1 3
+
+abbrev usedPush : Done
+usedPush = pushOf (replicate 1024 255) (stateOf 0 0 3 3) (1 ∷ []) (5 ∷ []) hello
+
 -- complete after each of the notes 3, 1, 2, 4 from 1
 abbrev notes : List ℕ → Bool
 notes ids = completeOf (run (begun 1 (replicate 64 0)) ids .sequence)
@@ -89,13 +107,28 @@ computed =
     ∷ ofPush tenPush
     ∷ (guessIn 5 (allPages (tenPush .store) 11) ∷ [])
     ∷ ofPush sixPush
-    ∷ ofLook (findOf (sixPush .store) (stateOf 6144 4 8) 2)
-    ∷ ofPush (pushOf (replicate 2048 0) (stateOf 0 5 1) (6 ∷ 6 ∷ []) (0 ∷ 0 ∷ []) [])
-    ∷ ofRecovery (recoverOf ninePage 1030)
+    ∷ ofLook (findOf (sixPush .store) (stateOf 6144 4 8 8) 2)
+    ∷ ofPush (pushOf (replicate 2048 0) (stateOf 0 5 1 1) (6 ∷ 6 ∷ []) (0 ∷ 0 ∷ []) [])
+    ∷ ofRecovery (recoverOf ninePage 1030 0)
     ∷ (ofAnswer (notes (3 ∷ [])) ∷ ofAnswer (notes (3 ∷ 1 ∷ [])) ∷ ofAnswer (notes (3 ∷ 1 ∷ 2 ∷ [])) ∷ ofAnswer (notes (3 ∷ 1 ∷ 2 ∷ 4 ∷ [])) ∷ [])
-    ∷ ofRecovery (recoverOf (longPush .store) 3500)
-    ∷ ofRecovery (recoverOf (longPush .store) 2047)
-    ∷ ofRecovery (recoverOf (longPush .store) 1023)
+    ∷ ofRecovery (recoverOf (longPush .store) 3500 0)
+    ∷ ofRecovery (recoverOf (longPush .store) 2047 0)
+    ∷ ofRecovery (recoverOf (longPush .store) 1023 0)
+    ∷ ofRaise (raiseOf fresh 2)
+    ∷ ofTake (takeOf raisedTwo)
+    ∷ ofTake (takeOf (stateOf 0 0 2 3))
+    ∷ ofTake (takeOf (stateOf 0 0 3 3))
+    ∷ ofPush usedPush
+    ∷ ofRecovery (recoverOf (usedPush .store) 1024 3)
+    ∷ ofRaise (raiseOf (stateOf 1024 1 3 3) 1)
+    ∷ ofTake (takeOf (stateOf 1024 1 3 4))
+    ∷ ofLook (findOf (usedPush .store) (stateOf 1024 1 4 4) 2)
+    ∷ ofRecovery (recoverOf (usedPush .store) 1024 0)
+    ∷ ofTake (takeOf (stateOf 1024 1 2 3))
+    ∷ ofRaise (raiseOf fresh 0)
+    ∷ ofRaise (raiseOf fresh 0x100000001)
+    ∷ ofRaise (raiseOf (stateOf 0 0 1 0xfffffffffffffffe) 1)
+    ∷ ofRaise (raiseOf (stateOf 0 0 1 0xfffffffffffffffe) 2)
     ∷ []
 
 -- each case as the rules have it
@@ -104,7 +137,7 @@ asWritten =
     -- 13.1: pages for seven payloads
     (1 ∷ 1 ∷ 2 ∷ 2 ∷ 3 ∷ 3 ∷ 16401 ∷ [])
     -- 13.2: no refusal, two entries written, the state
-    ∷ (0 ∷ 2 ∷ 2048 ∷ 2 ∷ 1 ∷ [])
+    ∷ (0 ∷ 2 ∷ 2048 ∷ 2 ∷ 1 ∷ 1 ∷ [])
     -- 13.2: page 0
     ∷ ((1 ∷ 0 ∷ 0 ∷ 0x0d ∷ 0 ∷ 0 ∷ 0 ∷ 0 ∷ 0 ∷ 0 ∷ 0 ∷ 1 ∷ 0x68 ∷ 0x65 ∷ 0x6c ∷ 0x6c ∷ 0x6f ∷ []) ++ replicate 1007 0)
     -- 13.2: page 1
@@ -112,28 +145,48 @@ asWritten =
     -- 13.2: 1 is absent at 2,048
     ∷ (0 ∷ 2048 ∷ [])
     -- 13.3: ten entries written
-    ∷ (0 ∷ 10 ∷ 10240 ∷ 10 ∷ 1 ∷ [])
+    ∷ (0 ∷ 10 ∷ 10240 ∷ 10 ∷ 1 ∷ 1 ∷ [])
     -- 13.3: the first guess for 5
     ∷ (4 ∷ [])
     -- 13.4: four entries written on six pages
-    ∷ (0 ∷ 4 ∷ 6144 ∷ 4 ∷ 1 ∷ [])
+    ∷ (0 ∷ 4 ∷ 6144 ∷ 4 ∷ 1 ∷ 1 ∷ [])
     -- 13.4: 2 is found at 3,072
     ∷ (1 ∷ 3072 ∷ 0 ∷ [])
     -- 13.5: refusal 2, one entry written, last written 6
-    ∷ (2 ∷ 1 ∷ 1024 ∷ 6 ∷ 1 ∷ [])
+    ∷ (2 ∷ 1 ∷ 1024 ∷ 6 ∷ 1 ∷ 1 ∷ [])
     -- 13.7: the excess, no page dropped, and the state
-    ∷ (6 ∷ 0 ∷ 1024 ∷ 9 ∷ 10 ∷ [])
+    ∷ (6 ∷ 0 ∷ 1024 ∷ 9 ∷ 10 ∷ 10 ∷ [])
     -- 13.8: complete, 1 for yes
     ∷ (0 ∷ 0 ∷ 1 ∷ 1 ∷ [])
     -- 13.9: the excess, the pages dropped and the state, of each cut
-    ∷ (428 ∷ 2 ∷ 1024 ∷ 1 ∷ 2 ∷ [])
-    ∷ (1023 ∷ 0 ∷ 1024 ∷ 1 ∷ 2 ∷ [])
-    ∷ (1023 ∷ 0 ∷ 0 ∷ 0 ∷ 1 ∷ [])
+    ∷ (428 ∷ 2 ∷ 1024 ∷ 1 ∷ 2 ∷ 2 ∷ [])
+    ∷ (1023 ∷ 0 ∷ 1024 ∷ 1 ∷ 2 ∷ 2 ∷ [])
+    ∷ (1023 ∷ 0 ∷ 0 ∷ 0 ∷ 1 ∷ 1 ∷ [])
+    -- 13.10: raised by 2, ids 1 and 2, then refusal 30
+    ∷ (0 ∷ 0 ∷ 1 ∷ 3 ∷ [])
+    ∷ (1 ∷ 0 ∷ 0 ∷ 2 ∷ 3 ∷ [])
+    ∷ (2 ∷ 0 ∷ 0 ∷ 3 ∷ 3 ∷ [])
+    ∷ (30 ∷ 0 ∷ [])
+    -- 13.10: 1 is pushed
+    ∷ (0 ∷ 1 ∷ 1024 ∷ 1 ∷ 3 ∷ 3 ∷ [])
+    -- 13.10: recovered with the stored ceiling 3, raised by 1, the next id, and where 2 is absent
+    ∷ (0 ∷ 0 ∷ 1024 ∷ 1 ∷ 3 ∷ 3 ∷ [])
+    ∷ (1024 ∷ 1 ∷ 3 ∷ 4 ∷ [])
+    ∷ (3 ∷ 1024 ∷ 1 ∷ 4 ∷ 4 ∷ [])
+    ∷ (0 ∷ 1024 ∷ [])
+    -- 13.10: with 0, and 2 again
+    ∷ (0 ∷ 0 ∷ 1024 ∷ 1 ∷ 2 ∷ 2 ∷ [])
+    ∷ (2 ∷ 1024 ∷ 1 ∷ 3 ∷ 3 ∷ [])
+    -- 13.10: steps that are refused, and the highest ceiling
+    ∷ (31 ∷ 0 ∷ [])
+    ∷ (31 ∷ 0 ∷ [])
+    ∷ (0 ∷ 0 ∷ 1 ∷ 0xffffffffffffffff ∷ [])
+    ∷ (31 ∷ 0 ∷ [])
     ∷ []
 
 -- what the definitions compute is what the rules say
 pub worked : computed ≡ asWritten
-unfolding computed asWritten ofState ofLook ofWhy ofPush ofRecovery ofAnswer pagesFor pageAt numberAt bytesOf markAt lengthAt idAt entryAt filled
+unfolding computed asWritten ofState ofLook ofWhy ofPush ofRecovery ofTake ofRaise ofAnswer takeOf badStep raiseOf pagesFor pageAt numberAt bytesOf markAt lengthAt idAt entryAt filled
     firstPage laterPage laterPages entryPages tooLong badState leastFrom leastShift offsetOf compared sayingAt turned walk search searchOf findOf
     atWhole atStart walkBack recoverLog recoverOf entryData some badEnd badBatch largeData someLarge wrote turn entriesFrom pushOf only shifted rounds
     noteOf answered run

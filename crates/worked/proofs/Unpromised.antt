@@ -11,7 +11,8 @@ use Rattle.page.specs.Mark.{markAt}
 use Rattle.page.specs.Entry.{lengthAt, idAt, entryAt}
 use Rattle.page.specs.Write.{filled, firstPage, laterPage, laterPages, entryPages}
 use Rattle.log.specs.Bounds.{tooLong, badState}
-use Rattle.log.specs.State.{fresh, stateOf, taken, takeOf}
+use Rattle.log.specs.State.{fresh, stateOf, takeOf}
+use Rattle.log.specs.Raise.{badStep, raiseOf}
 use Rattle.log.specs.Recovery.{recovered, atWhole, atStart, walkBack, recoverLog, recoverOf}
 use Rattle.log.specs.Check.{refused, laterMarks, checkStart, checkPage, checkEnd, checkFrom, checkOf}
 use Rattle.log.specs.Guess.{leastFrom, leastShift, offsetOf}
@@ -19,11 +20,11 @@ use Rattle.log.specs.Lookup.{absent, compared, sayingAt, turned, walk, search, 
 use Rattle.pushing.specs.Push.{entryData, some, badEnd, badBatch, largeData, someLarge, wrote, turn, entriesFrom, pushOf}
 use Rattle.demands.specs.Sound.{SoundStore}
 use Rattle.demands.specs.Push.{batchPages, Push, pagesOf}
-use Rattle.demands.specs.History.{World, world, logOf, take-id, recover, lend, cut-log, handed-out, anotherStore, answer, step, run, Settled, SettledByStored}
+use Rattle.demands.specs.History.{World, world, logOf, take-id, raise, cut-log, answer, step, run, Settled, SettledByStored}
 use Rattle.demands.proofs.Last.{last-stored-greatest}
 use Rattle.demands.proofs.Check.Passing.{checked-sound}
 use Rattle.demands.proofs.History.Demands.{last-is-stored}
-use Rattle.worked.proofs.Witnessed.{store, store-is-sound, begins, begins-there, three-settled, pushed-five, much, pushes-four, pushes-both, other}
+use Rattle.worked.proofs.Witnessed.{store, store-is-sound, begins, begins-there, three-settled, pushed-five, other}
 
 -- ---- 12.1: what passes the sound check
 
@@ -41,39 +42,19 @@ unfolding pagesFor pageAt numberAt bytesOf markAt lengthAt idAt entryAt filled f
 unmarked-is-sound = checked-sound unmarked 4096 .0 refl
 
 -- and its id 3 is handed out again, after 2
-pub unmarked-is-lost : recoverOf unmarked 4096 ≡ recovered (stateOf 4096 1 2) 0 0
+pub unmarked-is-lost : recoverOf unmarked 4096 0 ≡ recovered (stateOf 4096 1 2 2) 0 0
 unfolding pagesFor pageAt numberAt bytesOf markAt lengthAt idAt entryAt filled firstPage laterPage laterPages entryPages tooLong atWhole atStart walkBack recoverLog recoverOf
 unmarked-is-lost = refl
-
--- ---- 12.2: ids that come again after a restart
-
--- one that was taken and never pushed
-pub taken-comes-again : run begins (take-id ∷ recover ∷ take-id ∷ []) ≡ run begins (take-id ∷ [])
-unfolding pagesFor pageAt numberAt bytesOf markAt lengthAt idAt entryAt filled firstPage laterPage laterPages entryPages tooLong takeOf atWhole atStart walkBack recoverLog recoverOf answer step run
-taken-comes-again = refl
-
--- one that 4 refused
-pub refused-comes-again : run begins (take-id ∷ pushes-four much ∷ recover ∷ take-id ∷ []) ≡ run begins (take-id ∷ [])
-unfolding pagesFor pageAt numberAt bytesOf markAt lengthAt idAt entryAt filled firstPage laterPage laterPages entryPages tooLong badState takeOf
-    atWhole atStart walkBack recoverLog recoverOf entryData some badEnd badBatch largeData someLarge wrote turn entriesFrom pushOf answer step run
-refused-comes-again = refl
-
--- one of an entry that a cut took away
-pub cut-comes-again : answer (run begins (lend (replicate 3072 0) ∷ pushes-both ∷ cut-log 6620 (1 ∷ []) ∷ [])) take-id ≡ handed-out (taken 5 (stateOf 5120 4 6))
-unfolding pagesFor pageAt numberAt bytesOf markAt lengthAt idAt entryAt filled firstPage laterPage laterPages entryPages tooLong badState takeOf
-    atWhole atStart walkBack recoverLog recoverOf entryData some badEnd badBatch largeData someLarge wrote turn entriesFrom pushOf anotherStore answer
-    step run
-cut-comes-again = refl
 
 -- ---- 12.3: faults that are not told
 
 -- a bad mark on the idle page, which no recovery reads
-pub fault-unseen : recoverOf (take 1024 store ++ (7 ∷ drop 1025 store)) 4096 ≡ recoverOf store 4096
+pub fault-unseen : recoverOf (take 1024 store ++ (7 ∷ drop 1025 store)) 4096 0 ≡ recoverOf store 4096 0
 unfolding pagesFor pageAt numberAt bytesOf markAt lengthAt idAt entryAt filled firstPage laterPage laterPages entryPages tooLong atWhole atStart walkBack recoverLog recoverOf
 fault-unseen = refl
 
 -- in a log that is not sound, with 5 before 3, a stored id is missed: 11.5 asks for a sound log
-pub stored-and-missed : findOf (entryPages 5 [] ++ entryPages 3 []) (stateOf 2048 5 6) 5 ≡ absent 2048
+pub stored-and-missed : findOf (entryPages 5 [] ++ entryPages 3 []) (stateOf 2048 5 6 6) 5 ≡ absent 2048
 unfolding pagesFor pageAt numberAt bytesOf markAt lengthAt idAt entryAt filled firstPage laterPage laterPages entryPages tooLong badState leastFrom
     leastShift offsetOf compared sayingAt turned walk search searchOf findOf
 stored-and-missed = refl
@@ -102,7 +83,7 @@ longer = take 2050 store ++ (7 ∷ drop 2051 store)
 abbrev marked : List ℕ
 marked = take 3072 store ++ (1 ∷ drop 3073 store)
 
-pub damage-dropped : (recoverOf longer 4096 ≡ recovered (stateOf 2048 1 2) 0 2) × (recoverOf marked 4096 ≡ recovered (stateOf 2048 1 2) 0 2)
+pub damage-dropped : (recoverOf longer 4096 0 ≡ recovered (stateOf 2048 1 2 2) 0 2) × (recoverOf marked 4096 0 ≡ recovered (stateOf 2048 1 2 2) 0 2)
 unfolding pagesFor pageAt numberAt bytesOf markAt lengthAt idAt entryAt filled firstPage laterPage laterPages entryPages tooLong atWhole atStart walkBack recoverLog recoverOf
 damage-dropped = (refl, refl)
 
@@ -116,7 +97,7 @@ damage-told = (refl, refl)
 abbrev older : List ℕ
 older = take 4096 store ++ entryPages 1 []
 
-pub older-found : (recoverOf older 5120 ≡ recovered (stateOf 5120 1 2) 0 0) × (checkOf older 5120 ≡ refused 15 4)
+pub older-found : (recoverOf older 5120 0 ≡ recovered (stateOf 5120 1 2 2) 0 0) × (checkOf older 5120 ≡ refused 15 4)
 unfolding pagesFor pageAt numberAt bytesOf markAt lengthAt idAt entryAt filled firstPage laterPage laterPages entryPages tooLong atWhole atStart
     walkBack recoverLog recoverOf laterMarks checkStart checkPage checkEnd checkFrom checkOf
 older-found = (refl, refl)
@@ -126,7 +107,7 @@ older-found = (refl, refl)
 abbrev overlapped : ℕ → List ℕ
 overlapped id = entryPages id [] ++ (take 1024 (entryPages 2 (replicate 1013 9)) ++ take 1024 (entryPages 3 (replicate 1013 9)))
 
-pub overlapped-differs : (recoverOf (overlapped 1) 3072 ≡ recovered (stateOf 1024 1 2) 0 2) × (recoverOf (overlapped 9) 3072 ≡ recovered (stateOf 1024 9 10) 0 2)
+pub overlapped-differs : (recoverOf (overlapped 1) 3072 0 ≡ recovered (stateOf 1024 1 2 2) 0 2) × (recoverOf (overlapped 9) 3072 0 ≡ recovered (stateOf 1024 9 10 10) 0 2)
 unfolding pagesFor pageAt numberAt bytesOf markAt lengthAt idAt entryAt filled firstPage laterPage laterPages entryPages tooLong atWhole atStart walkBack recoverLog recoverOf
 overlapped-differs = (refl, refl)
 
@@ -135,14 +116,14 @@ overlapped-differs = (refl, refl)
 abbrev ends-cut : ℕ → List ℕ
 ends-cut id = entryPages id [] ++ take 1024 (entryPages 2 (replicate 1013 9))
 
-pub cut-differs : (recoverOf (ends-cut 1) 2048 ≡ recovered (stateOf 1024 1 2) 0 1) × (recoverOf (ends-cut 9) 2048 ≡ recovered (stateOf 1024 9 10) 0 1)
+pub cut-differs : (recoverOf (ends-cut 1) 2048 0 ≡ recovered (stateOf 1024 1 2 2) 0 1) × (recoverOf (ends-cut 9) 2048 0 ≡ recovered (stateOf 1024 9 10 10) 0 1)
 unfolding pagesFor pageAt numberAt bytesOf markAt lengthAt idAt entryAt filled firstPage laterPage laterPages entryPages tooLong atWhole atStart walkBack recoverLog recoverOf
 cut-differs = (refl, refl)
 
 -- ---- 11.7 asks of a push that is cut that last written is the last stored id: 10, pushed from a made-up 9 and cut where it begins, leaves 3
 
-pub made-up-torn : (pushOf store (stateOf 4096 9 10) (10 ∷ []) (0 ∷ []) [] .answer .written ≡ 1)
-    × (recoverOf (pushOf store (stateOf 4096 9 10) (10 ∷ []) (0 ∷ []) [] .store) 4096 ≡ recovered (stateOf 4096 3 4) 0 0)
+pub made-up-torn : (pushOf store (stateOf 4096 9 10 10) (10 ∷ []) (0 ∷ []) [] .answer .written ≡ 1)
+    × (recoverOf (pushOf store (stateOf 4096 9 10 10) (10 ∷ []) (0 ∷ []) [] .store) 4096 0 ≡ recovered (stateOf 4096 3 4 4) 0 0)
 unfolding pagesFor pageAt numberAt bytesOf markAt lengthAt idAt entryAt filled firstPage laterPage laterPages entryPages tooLong badState entryData
     some badEnd badBatch largeData someLarge wrote turn entriesFrom pushOf atWhole atStart walkBack recoverLog recoverOf
 made-up-torn = (refl, refl)
@@ -150,21 +131,21 @@ made-up-torn = (refl, refl)
 -- ---- 11.9 and 11.10 ask that no cut falls below: 3, settled and found, is lost by a cut in its last page, and 5 by one in its own, though both are below next again
 
 abbrev cut-three : World
-cut-three = run begins (cut-log 4000 [] ∷ take-id ∷ take-id ∷ [])
+cut-three = run begins (cut-log 4000 0 [] ∷ raise 2 ∷ take-id ∷ take-id ∷ [])
 
 pub three-was-settled : Settled begins 3
 three-was-settled = record { some = lit≤ tt; most = lit≤ tt; below = lit< tt }
 
-pub three-is-lost : (cut-three .state ≡ stateOf 2048 1 4) × (findOf (cut-three .store) (cut-three .state) 3 ≡ absent 2048)
-unfolding pagesFor pageAt numberAt bytesOf markAt lengthAt idAt entryAt filled firstPage laterPage laterPages entryPages tooLong badState takeOf
+pub three-is-lost : (cut-three .state ≡ stateOf 2048 1 4 4) × (findOf (cut-three .store) (cut-three .state) 3 ≡ absent 2048)
+unfolding pagesFor pageAt numberAt bytesOf markAt lengthAt idAt entryAt filled firstPage laterPage laterPages entryPages tooLong badState takeOf badStep raiseOf
     leastFrom leastShift offsetOf compared sayingAt turned walk search searchOf findOf atWhole atStart walkBack recoverLog recoverOf answer step run
 three-is-lost = (refl, refl)
 
 abbrev cut-five : World
-cut-five = run pushed-five (cut-log 5000 [] ∷ take-id ∷ take-id ∷ [])
+cut-five = run pushed-five (cut-log 5000 0 [] ∷ raise 2 ∷ take-id ∷ take-id ∷ [])
 
-pub five-is-lost : (cut-five .state ≡ stateOf 4096 3 6) × (findOf (cut-five .store) (cut-five .state) 5 ≡ absent 4096)
-unfolding pagesFor pageAt numberAt bytesOf markAt lengthAt idAt entryAt filled firstPage laterPage laterPages entryPages tooLong badState takeOf
+pub five-is-lost : (cut-five .state ≡ stateOf 4096 3 6 6) × (findOf (cut-five .store) (cut-five .state) 5 ≡ absent 4096)
+unfolding pagesFor pageAt numberAt bytesOf markAt lengthAt idAt entryAt filled firstPage laterPage laterPages entryPages tooLong badState takeOf badStep raiseOf
     leastFrom leastShift offsetOf compared sayingAt turned walk search searchOf findOf entryData some badEnd badBatch largeData someLarge wrote turn
     entriesFrom pushOf atWhole atStart walkBack recoverLog recoverOf answer step run
 five-is-lost = (refl, refl)
@@ -180,7 +161,7 @@ only-the-first = (refl, refl)
 
 -- ---- 11.7 asks for a last written at or above the last stored id: with one that was made up a push leaves a log that is not sound
 
-pub made-up-last : checkOf (pushOf store (stateOf 4096 0 4) (1 ∷ []) (0 ∷ []) [] .store) 5120 ≡ refused 15 4
+pub made-up-last : checkOf (pushOf store (stateOf 4096 0 4 4) (1 ∷ []) (0 ∷ []) [] .store) 5120 ≡ refused 15 4
 unfolding pagesFor pageAt numberAt bytesOf markAt lengthAt idAt entryAt filled firstPage laterPage laterPages entryPages tooLong badState entryData
     some badEnd badBatch largeData someLarge wrote turn entriesFrom pushOf laterMarks checkStart checkPage checkEnd checkFrom checkOf
 made-up-last = refl
@@ -188,10 +169,10 @@ made-up-last = refl
 -- ---- 11.8 and 11.10 ask for a history: in states that were made up 5 is settled by last written and above the last stored id, and 3, which is stored, above last written
 
 abbrev too-high : World
-too-high = world store (stateOf 4096 9 10)
+too-high = world store (stateOf 4096 9 10 10)
 
 abbrev too-low : World
-too-low = world store (stateOf 4096 0 4)
+too-low = world store (stateOf 4096 0 4 4)
 
 pub settled-not-stored : Settled too-high 5 × (SettledByStored too-high 5 → ⊥)
 unfolding run

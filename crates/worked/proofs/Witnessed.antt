@@ -37,6 +37,7 @@ use Rattle.page.specs.Write.{filled, firstPage, laterPage, laterPages, entryPag
 use Rattle.log.specs.Round.{stop, again}
 use Rattle.log.specs.Bounds.{tooLong, badState, Fits, Good}
 use Rattle.log.specs.State.{fresh, stateOf, takeOf}
+use Rattle.log.specs.Raise.{badStep, raiseOf}
 use Rattle.demands.specs.Sound.{Start, SoundStore, Last, LastStored, last-entry}
 use Rattle.demands.specs.Push.{batchPages, logAfter, Holds, Ready, Push, dataIn, outcome, pagesOf, AlikeFrom}
 use Rattle.demands.specs.Recovery.{RightRecovery, RightCut, Torn, Apart, strictAt, strictBack, strictOf}
@@ -53,7 +54,7 @@ use Rattle.scanning.specs.Step.{stepStart, stepPage, forward, forwardFrom, step
 use Rattle.log.specs.declared.state.State.{State}
 use Rattle.scanning.specs.declared.Range.{Range}
 use Rattle.scanning.specs.declared.End.the-variants.{Open}
-use Rattle.demands.specs.History.{World, world, logOf, Words, Call, push, take-id, find, lookup, lend, cut-log}
+use Rattle.demands.specs.History.{World, world, logOf, Words, Call, push, take-id, raise, find, lookup, lend, cut-log}
 use Rattle.demands.specs.History.{anotherStore, answer, step, run, said, AllSpare, Begun, Settled, SettledByStored, LooksUp, Gives, Answers, KeepsFull, ReadsBack}
 use Rattle.page.proofs.Runs.{data-one-part}
 use Rattle.demands.proofs.Check.Passing.{checked-sound}
@@ -106,11 +107,11 @@ store-is-sound = checked-sound store 4096 .0 refl
 -- ---- its recovered state
 
 abbrev pub begins : World
-begins = world store (stateOf 4096 3 4)
+begins = world store (stateOf 4096 3 4 4)
 
 pub begins-there : Begun begins
 unfolding pagesFor pageAt numberAt bytesOf markAt lengthAt idAt entryAt filled firstPage laterPage laterPages entryPages tooLong atWhole atStart walkBack recoverLog recoverOf
-begins-there = record { size = 4096; excess = 0; dropped = 0; is = refl; sound = store-is-sound .sound }
+begins-there = record { size = 4096; stored = 0; excess = 0; dropped = 0; is = refl; sound = store-is-sound .sound }
 
 starts-there : (p : ℕ) → Start (logOf begins) p → (p ≡ 0) ⊎ (p ≡ 2)
 unfolding pagesFor pageAt bytesOf markAt filled firstPage laterPage laterPages entryPages
@@ -184,18 +185,18 @@ all-scanned = scan-right store (begins .state) every 1013 store-is-sound all-fit
 
 -- ---- a length that is no multiple of 1,024: the lookup and the step are refused, and leave the output
 
-pub lookup-kept : (out : List ℕ) → lookupOf store (stateOf 1 0 1) 1 out .out ≡ out
+pub lookup-kept : (out : List ℕ) → lookupOf store (stateOf 1 0 1 1) 1 out .out ≡ out
 unfolding bytesOf pagesFor filled firstPage laterPage laterPages entryPages tooLong badState findOf handFound lookupOf
-lookup-kept out = refused-lookup-keeps store (stateOf 1 0 1) 1 out 1 0 refl
+lookup-kept out = refused-lookup-keeps store (stateOf 1 0 1 1) 1 out 1 0 refl
 
-pub step-kept : (out : List ℕ) → stepOf store (stateOf 1 0 1) every 0 out .out ≡ out
+pub step-kept : (out : List ℕ) → stepOf store (stateOf 1 0 1 1) every 0 out .out ≡ out
 unfolding bytesOf pagesFor filled firstPage laterPage laterPages entryPages tooLong badState stepOf
-step-kept out = refused-step-keeps store (stateOf 1 0 1) every 0 out 1 0 refl
+step-kept out = refused-step-keeps store (stateOf 1 0 1 1) every 0 out 1 0 refl
 
 -- ---- 5 is pushed with a byte: from the recovered state, and once two ids are taken, when it reads back through any later calls
 
 abbrev takes : List Call
-takes = take-id ∷ take-id ∷ []
+takes = raise 2 ∷ take-id ∷ take-id ∷ []
 
 pub one-word : Words (5 ∷ [])
 one-word zero = lit< tt
@@ -219,17 +220,17 @@ abbrev pub pushed-five : World
 pushed-five = step (run begins takes) pushes-five
 
 pub five-reads-back : ReadsBack pushed-five 5 (8 ∷ []) 5120
-unfolding pagesFor pageAt bytesOf filled firstPage laterPage laterPages entryPages tooLong badState takeOf entryData some badEnd badBatch largeData
+unfolding pagesFor pageAt bytesOf filled firstPage laterPage laterPages entryPages tooLong badState takeOf badStep raiseOf entryData some badEnd badBatch largeData
     someLarge wrote turn entriesFrom pushOf batchPages answer step run
 five-reads-back = read-back begins begins-there takes (5 ∷ []) (1 ∷ []) (8 ∷ []) one-word 0 (lit< tt)
 
 five-settled : Settled pushed-five 5
-unfolding pagesFor bytesOf filled firstPage laterPage laterPages entryPages tooLong badState takeOf entryData some badEnd badBatch largeData someLarge wrote turn entriesFrom pushOf answer step run
+unfolding pagesFor bytesOf filled firstPage laterPage laterPages entryPages tooLong badState takeOf badStep raiseOf entryData some badEnd badBatch largeData someLarge wrote turn entriesFrom pushOf answer step run
 five-settled = record { some = lit≤ tt; most = lit≤ tt; below = lit< tt }
 
 pub five-stays-read : (later : List Call) → AllSpare 5120 later → Answers (run pushed-five later) 5 (present (five-reads-back .position) 1) (8 ∷ [])
-unfolding pagesFor bytesOf filled firstPage laterPage laterPages entryPages tooLong badState takeOf entryData some badEnd badBatch largeData someLarge wrote turn entriesFrom pushOf answer step run
-five-stays-read later spare = five-reads-back .reads later spare (settled begins begins-there (take-id ∷ take-id ∷ pushes-five ∷ []) 5 five-settled .kept later spare .settled .below)
+unfolding pagesFor bytesOf filled firstPage laterPage laterPages entryPages tooLong badState takeOf badStep raiseOf entryData some badEnd badBatch largeData someLarge wrote turn entriesFrom pushOf answer step run
+five-stays-read later spare = five-reads-back .reads later spare (settled begins begins-there (raise 2 ∷ take-id ∷ take-id ∷ pushes-five ∷ []) 5 five-settled .kept later spare .settled .below)
 
 -- ---- 4 is pushed with more than the two pages of room hold; then again with a byte, or as it was in a longer store
 
@@ -245,7 +246,7 @@ pushes-four d = push (4 ∷ []) (length d ∷ []) d four-word
 
 -- once its id is taken
 abbrev taken-four : State
-taken-four = stateOf 4096 3 5
+taken-four = stateOf 4096 3 5 5
 
 abbrev refused-four : Push
 refused-four = record { store = store; state = taken-four; ids = 4 ∷ []; ends = 2036 ∷ []; bytes = much }
@@ -275,10 +276,10 @@ unfolding pagesFor bytesOf filled firstPage laterPage laterPages entryPages tooL
 four-with-room = tried-again refused-four 4 (inr refl) refl (store ++ page-more) much good-longer (lit< tt) (lit≤ tt)
 
 -- in a history: refused, another store lent with a page more, the same push
-pub four-is-last : LastStored (logOf (run begins (take-id ∷ pushes-four much ∷ lend (replicate 3072 0) ∷ pushes-four much ∷ []))) 4
-unfolding pagesFor bytesOf filled firstPage laterPage laterPages entryPages tooLong badState takeOf entryData some badEnd badBatch largeData someLarge
+pub four-is-last : LastStored (logOf (run begins (raise 1 ∷ take-id ∷ pushes-four much ∷ lend (replicate 3072 0) ∷ pushes-four much ∷ []))) 4
+unfolding pagesFor bytesOf filled firstPage laterPage laterPages entryPages tooLong badState takeOf badStep raiseOf entryData some badEnd badBatch largeData someLarge
     wrote turn entriesFrom pushOf anotherStore answer step run
-four-is-last = last-is-stored begins begins-there (take-id ∷ pushes-four much ∷ lend (replicate 3072 0) ∷ pushes-four much ∷ [])
+four-is-last = last-is-stored begins begins-there (raise 1 ∷ take-id ∷ pushes-four much ∷ lend (replicate 3072 0) ∷ pushes-four much ∷ [])
 
 pub five-is-last : LastStored (logAfter (pushOf store (begins .state) (5 ∷ []) (1 ∷ []) (8 ∷ []))) 5
 unfolding pagesFor bytesOf filled firstPage laterPage laterPages entryPages tooLong badState entryData some badEnd badBatch largeData someLarge wrote turn entriesFrom pushOf
@@ -309,12 +310,12 @@ unfolding pagesFor pageAt numberAt bytesOf markAt lengthAt idAt filled firstPage
 last-is-three = last-entry 2 last-there refl
 
 pub both-torn : (rest : List ℕ) → Fits (take 6620 (outcome cut-push .store) ++ rest) 6620
-    → Torn cut-push 6620 (take 6620 (outcome cut-push .store) ++ rest) (recoverOf (take 6620 (outcome cut-push .store) ++ rest) 6620)
+    → Torn cut-push 6620 0 (take 6620 (outcome cut-push .store) ++ rest) (recoverOf (take 6620 (outcome cut-push .store) ++ rest) 6620 0)
 unfolding pagesFor bytesOf filled firstPage laterPage laterPages entryPages tooLong badState entryData some badEnd badBatch largeData someLarge wrote turn entriesFrom pushOf
-both-torn rest fits = torn cut-push two-words longer-sound last-is-three 6620 (lit≤ tt) (lit≤ tt) rest fits
+both-torn rest fits = torn cut-push two-words longer-sound last-is-three 6620 (lit≤ tt) (lit≤ tt) rest fits 0
 
 -- with a byte beyond: 4 is kept, a page and 476 bytes of 5 are not
-pub four-kept : recoverOf (take 6620 (outcome cut-push .store) ++ (1 ∷ [])) 6620 ≡ recovered (stateOf 5120 4 5) 476 1
+pub four-kept : recoverOf (take 6620 (outcome cut-push .store) ++ (1 ∷ [])) 6620 0 ≡ recovered (stateOf 5120 4 5 5) 476 1
 unfolding pagesFor pageAt numberAt bytesOf markAt lengthAt idAt entryAt filled firstPage laterPage laterPages entryPages tooLong badState entryData
     some badEnd badBatch largeData someLarge wrote turn entriesFrom pushOf atWhole atStart walkBack recoverLog recoverOf
 four-kept = refl
@@ -328,37 +329,37 @@ unfolding pagesFor pageAt numberAt bytesOf markAt lengthAt filled firstPage late
     badBatch largeData someLarge wrote turn entriesFrom pushOf
 four-apart = record { start = record { inside = lit< tt; marked = refl }; before = λ q h l. l; within = lit≤ tt }
 
-pub torn-alike : recoverOf torn-store 6620 ≡ recoverOf (entryPages 1 (6 ∷ []) ++ drop 1024 torn-store) 6620
+pub torn-alike : recoverOf torn-store 6620 0 ≡ recoverOf (entryPages 1 (6 ∷ []) ++ drop 1024 torn-store) 6620 0
 unfolding pagesFor bytesOf filled firstPage laterPage laterPages entryPages tooLong badState entryData some badEnd badBatch largeData someLarge wrote turn entriesFrom pushOf
 torn-alike =
-    recover-alike torn-store (entryPages 1 (6 ∷ []) ++ drop 1024 torn-store) 6620 4
+    recover-alike torn-store (entryPages 1 (6 ∷ []) ++ drop 1024 torn-store) 6620 0 4
     (record { small = lit≤ tt; inside = lit≤ tt }) (record { small = lit≤ tt; inside = lit≤ tt }) four-apart refl
 
 -- a recovery that drops nothing refuses it
-pub five-is-cut : strictOf torn-store 6620 ≡ unrecovered 7 5
+pub five-is-cut : strictOf torn-store 6620 0 ≡ unrecovered 7 5
 unfolding pagesFor pageAt numberAt bytesOf markAt lengthAt idAt entryAt filled firstPage laterPage laterPages entryPages tooLong badState entryData
     some badEnd badBatch largeData someLarge wrote turn entriesFrom pushOf atWhole strictAt strictBack strictOf
 five-is-cut = refl
 
 -- what is left of it recovers to the same, and all of it adds up
-pub four-again : (recoverOf torn-store 5120 ≡ recovered (stateOf 5120 4 5) 0 0) × (5120 + 1 * 1024 + 476 ≡ 6620)
-four-again = (recovered-again torn-store 6620 (stateOf 5120 4 5) 476 1 four-kept, recovered-adds-up torn-store 6620 (stateOf 5120 4 5) 476 1 four-kept)
+pub four-again : (recoverOf torn-store 5120 0 ≡ recovered (stateOf 5120 4 5 5) 0 0) × (5120 + 1 * 1024 + 476 ≡ 6620)
+four-again = (recovered-again torn-store 6620 0 (stateOf 5120 4 5 5) 476 1 four-kept, recovered-adds-up torn-store 6620 0 (stateOf 5120 4 5 5) 476 1 four-kept)
 
 -- and a history may begin with it
-pub torn-begins : Begun (world torn-store (stateOf 5120 4 5))
+pub torn-begins : Begun (world torn-store (stateOf 5120 4 5 5))
 unfolding pagesFor pageAt numberAt bytesOf markAt lengthAt idAt entryAt filled firstPage laterPage laterPages entryPages tooLong badState entryData
     some badEnd badBatch largeData someLarge wrote turn entriesFrom pushOf laterMarks checkStart checkPage checkEnd checkFrom checkOf
-torn-begins = record { size = 6620; excess = 476; dropped = 1; is = four-kept; sound = checked-sound torn-store 5120 .0 refl .sound }
+torn-begins = record { size = 6620; stored = 0; excess = 476; dropped = 1; is = four-kept; sound = checked-sound torn-store 5120 .0 refl .sound }
 
--- in a history: a longer store is lent, both are pushed, the log is cut there, 5 is handed out again
+-- in a history: a longer store is lent, both are pushed, the log is cut there, and with the stored ceiling 7 the next id is 7
 abbrev torn-calls : List Call
-torn-calls = lend (replicate 3072 0) ∷ pushes-both ∷ cut-log 6620 (1 ∷ []) ∷ take-id ∷ []
+torn-calls = lend (replicate 3072 0) ∷ pushes-both ∷ cut-log 6620 7 (1 ∷ []) ∷ raise 1 ∷ take-id ∷ []
 
-pub torn-goes-on : (run begins torn-calls .state ≡ stateOf 5120 4 6) × AllSpare 4096 torn-calls
-unfolding pagesFor pageAt numberAt bytesOf markAt lengthAt idAt entryAt filled firstPage laterPage laterPages entryPages tooLong badState takeOf
+pub torn-goes-on : (run begins torn-calls .state ≡ stateOf 5120 4 8 8) × AllSpare 4096 torn-calls
+unfolding pagesFor pageAt numberAt bytesOf markAt lengthAt idAt entryAt filled firstPage laterPage laterPages entryPages tooLong badState takeOf badStep raiseOf
     entryData some badEnd badBatch largeData someLarge wrote turn entriesFrom pushOf atWhole atStart walkBack recoverLog recoverOf anotherStore answer
     step run
-torn-goes-on = (refl, (tt, (tt, (lit≤ tt, (tt, tt)))))
+torn-goes-on = (refl, (tt, (tt, (lit≤ tt, (tt, (tt, tt))))))
 
 -- where 3 is found as before
 pub three-through-a-cut : (out : List ℕ) → 1013 ≤ length out → LooksUp (answer (run begins torn-calls) (lookup 3 out)) (present 2048 1013) (replicate 1013 9 ++ drop 1013 out)
@@ -376,38 +377,38 @@ pub three-after-nine : KeepsFull (run begins (pushes-top ∷ [])) 5120 [] 3 (pre
 unfolding pagesFor pageAt numberAt bytesOf markAt lengthAt idAt entryAt placeOf dataOf dataAt filled firstPage laterPage laterPages entryPages tooLong
     badState leastFrom leastShift offsetOf compared sayingAt turned walk search searchOf findOf entryData some badEnd badBatch largeData someLarge
     wrote turn entriesFrom pushOf atWhole atStart walkBack recoverLog recoverOf standingData settled answer step run
-three-after-nine = settled begins begins-there [] 3 (settled-there 3 (lit≤ tt) (lit≤ tt)) .full (pushes-top ∷ []) (tt, tt) 5120 [] (lit≤ tt) refl (lit< tt)
+three-after-nine = settled begins begins-there [] 3 (settled-there 3 (lit≤ tt) (lit≤ tt)) .full (pushes-top ∷ []) (tt, tt) 5120 0 [] (lit≤ tt) refl (lit< tt)
 
 -- 4 reads back through any cut after its page, though 5 of the same push is cut
 abbrev lent-calls : List Call
-lent-calls = lend (replicate 3072 0) ∷ take-id ∷ take-id ∷ []
+lent-calls = lend (replicate 3072 0) ∷ raise 2 ∷ take-id ∷ take-id ∷ []
 
 pub four-reads-back : ReadsBack (step (run begins lent-calls) pushes-both) 4 (8 ∷ []) 5120
-unfolding pagesFor pageAt bytesOf filled firstPage laterPage laterPages entryPages tooLong badState takeOf entryData some badEnd badBatch largeData
+unfolding pagesFor pageAt bytesOf filled firstPage laterPage laterPages entryPages tooLong badState takeOf badStep raiseOf entryData some badEnd badBatch largeData
     someLarge wrote turn entriesFrom pushOf batchPages anotherStore answer step run
 four-reads-back = read-back begins begins-there lent-calls (4 ∷ 5 ∷ []) (1 ∷ 1014 ∷ []) both two-words 0 (lit< tt)
 
 abbrev cut-then : World
-cut-then = run (step (run begins lent-calls) pushes-both) (cut-log 6620 (1 ∷ []) ∷ [])
+cut-then = run (step (run begins lent-calls) pushes-both) (cut-log 6620 0 (1 ∷ []) ∷ [])
 
 pub four-below-next : 4 < cut-then .state .next
-unfolding pagesFor pageAt numberAt bytesOf markAt lengthAt idAt entryAt filled firstPage laterPage laterPages entryPages tooLong badState takeOf
+unfolding pagesFor pageAt numberAt bytesOf markAt lengthAt idAt entryAt filled firstPage laterPage laterPages entryPages tooLong badState takeOf badStep raiseOf
     entryData some badEnd badBatch largeData someLarge wrote turn entriesFrom pushOf atWhole atStart walkBack recoverLog recoverOf anotherStore answer
     step run
 four-below-next = lit< tt
 
 pub four-stays-read : Answers cut-then 4 (present (four-reads-back .position) 1) (8 ∷ [])
-four-stays-read = four-reads-back .reads (cut-log 6620 (1 ∷ []) ∷ []) (lit≤ tt, tt) four-below-next
+four-stays-read = four-reads-back .reads (cut-log 6620 0 (1 ∷ []) ∷ []) (lit≤ tt, tt) four-below-next
 
 -- the log cut without a push, in its last entry
-pub cut-in-three : RightCut (logOf begins) 3500 (recoverOf (take 3500 (logOf begins) ++ []) 3500)
+pub cut-in-three : RightCut (logOf begins) 3500 0 (recoverOf (take 3500 (logOf begins) ++ []) 3500 0)
 unfolding pagesFor bytesOf filled firstPage laterPage laterPages entryPages
-cut-in-three = cut-at-byte (logOf begins) (store-is-sound .sound) 3500 (lit≤ tt) [] (record { small = lit≤ tt; inside = lit≤ tt })
+cut-in-three = cut-at-byte (logOf begins) (store-is-sound .sound) 3500 (lit≤ tt) [] (record { small = lit≤ tt; inside = lit≤ tt }) 0
 
 -- nothing is cut off the whole log
-pub whole-uncut : recoverOf store 4096 ≡ strictOf store 4096
+pub whole-uncut : recoverOf store 4096 0 ≡ strictOf store 4096 0
 unfolding pagesFor pageAt numberAt bytesOf markAt lengthAt idAt entryAt filled firstPage laterPage laterPages entryPages tooLong atWhole strictAt strictBack strictOf
-whole-uncut = uncut-same store 4096 (λ s e. absurd (let z : _≡_ {A = ℕ} 0 1 = cc in omega arith))
+whole-uncut = uncut-same store 4096 0 (λ s e. absurd (let z : _≡_ {A = ℕ} 0 1 = cc in omega arith))
 
 -- ---- 13.6, of any 16,777,208 bytes and any store with last written 6
 
@@ -499,8 +500,8 @@ nine-fits : Fits ninePage 1030
 unfolding pagesFor bytesOf filled firstPage laterPage laterPages entryPages
 nine-fits = record { small = nine-sound .fits .small; inside = lit≤ tt }
 
-pub excess-recovers : RightRecovery (take 1024 ninePage) 6 0 (recoverOf ninePage 1030)
-excess-recovers = recover-right ninePage 1030 nine-fits (nine-sound .sound)
+pub excess-recovers : RightRecovery (take 1024 ninePage) 20 6 0 (recoverOf ninePage 1030 20)
+excess-recovers = recover-right ninePage 1030 20 nine-fits (nine-sound .sound)
 
 -- ---- a log whose first entry has another byte recovers alike: it agrees from page 2 on, where the last entry starts
 
@@ -515,8 +516,8 @@ same-from-there : drop 2048 (wholePages store 4096) ≡ drop 2048 (wholePages ot
 unfolding pagesFor bytesOf filled firstPage laterPage laterPages entryPages
 same-from-there = refl
 
-pub recovers-alike : recoverOf store 4096 ≡ recoverOf other 4096
-recovers-alike = recover-alike store other 4096 2 (store-is-sound .fits) fits-there (sound-apart (logOf begins) (store-is-sound .sound) 2 (last-there .start)) same-from-there
+pub recovers-alike : recoverOf store 4096 0 ≡ recoverOf other 4096 0
+recovers-alike = recover-alike store other 4096 0 2 (store-is-sound .fits) fits-there (sound-apart (logOf begins) (store-is-sound .sound) 2 (last-there .start)) same-from-there
 
 -- ---- the data of the entry on that page of id 9 is a part of the log
 

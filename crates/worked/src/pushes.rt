@@ -40,7 +40,7 @@ name push 3, 2, 4
 entries 0 0 xyz 3 2 4 1 2 3
 untouched
 fill 255
-state 0 0 1
+state 0 0 1 1
 name two pages, push 1 with 5 bytes and 2 with 1013
 long 2048 - - 1 2 - 5 1018 -
 untouched
@@ -80,49 +80,49 @@ name push 2^64-1
 entries 0 0 ab 18446744073709551615 - - 2 - -
 yields
 fill 255
-state 0 0 1
+state 0 0 1 2
 name push 1 with 1011 bytes
 long 4096 - - 1 - - 1011 - -
 untouched
 verify 1011
 fill 255
-state 0 0 1
+state 0 0 1 2
 name push 1 with 1012 bytes
 long 4096 - - 1 - - 1012 - -
 untouched
 verify 1012
 fill 255
-state 0 0 1
+state 0 0 1 2
 name push 1 with 1013 bytes
 long 4096 - - 1 - - 1013 - -
 untouched
 verify 1013
 fill 255
-state 0 0 1
+state 0 0 1 2
 name push 1 with 1014 bytes
 long 4096 - - 1 - - 1014 - -
 untouched
 verify 1014
 fill 255
-state 0 0 1
+state 0 0 1 2
 name push 1 with 2034 bytes
 long 4096 - - 1 - - 2034 - -
 untouched
 verify 2034
 fill 255
-state 0 0 1
+state 0 0 1 2
 name push 1 with 2035 bytes
 long 4096 - - 1 - - 2035 - -
 untouched
 verify 2035
 fill 255
-state 0 0 1
+state 0 0 1 2
 name push 1 with 2036 bytes
 long 4096 - - 1 - - 2036 - -
 untouched
 verify 2036
 fill 255
-state 0 0 1
+state 0 0 1 2
 name push 1 with 2037 bytes
 long 4096 - - 1 - - 2037 - -
 untouched
@@ -154,7 +154,7 @@ fn outcome(pushed: Pushed) {
     let reason = pushed.reason;
     say::one(b"# written, ", pushed.written);
     why(reason);
-    say::state(b"; state #, #, #\n", pushed.state);
+    say::state(b"; state #, #, #, #\n", pushed.state);
 }
 
 fn why(reason: Reason) {
@@ -201,12 +201,23 @@ pub fn entries(store: &mut [u8], line: &[u8]) -> State {
         length: number(line, 1),
         last: number(line, 2),
         next: 1,
+        ceiling: 1,
     };
+    building::fill(store, 255);
+    words(store, 4096, state, line)
+}
+
+// "Word SIZE - DATA IDS ENDS": pushes onto what is there, with short data.
+pub fn word(store: &mut [u8], state: State, line: &[u8]) -> State {
+    words(store, number(line, 1) as usize, state, line)
+}
+
+// Pushes the data that is word 3 of a line.
+fn words(store: &mut [u8], size: usize, state: State, line: &[u8]) -> State {
     let data = part(line, b' ', 3);
     let from = data.from;
     let end = data.end;
-    building::fill(store, 255);
-    onto(store, 4096, state, line, &line[from..end])
+    onto(store, size, state, line, &line[from..end])
 }
 
 // "long SIZE - - IDS ENDS": pushes onto what is there, with long data.
@@ -256,7 +267,7 @@ fn query(store: &[u8], state: State, id: u64) {
 // "yields": what recovery says then.
 fn yields(store: &[u8], state: State) {
     say::text(b"  recovery then: ");
-    say_recovered(log::recover(store, state.length));
+    say_recovered(log::recover(store, state.length, 0));
 }
 
 // An answer's bytes are so many of the long data from a place on.
@@ -358,6 +369,7 @@ fn push_thousand(store: &mut [u8], ids: &[u64], bytes: &[u8]) {
         length: state.length,
         last: state.last,
         next: 1001,
+        ceiling: 1001,
     };
     say_back(thousand_back(store, all));
 }

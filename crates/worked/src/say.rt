@@ -57,11 +57,13 @@ pub fn two(words: &[u8], a: u64, b: u64) {
     piece(words, b'#', 2);
 }
 
-// Words with a state's numbers in place of their '#': length, last and next.
+// Words with a state's numbers in place of their '#': length, last, next and ceiling.
 pub fn state(words: &[u8], s: State) {
     two(words, s.length, s.last);
     number(s.next);
     piece(words, b'#', 3);
+    number(s.ceiling);
+    piece(words, b'#', 4);
 }
 
 // Bytes in hexadecimal digits, with a space after each.

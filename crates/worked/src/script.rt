@@ -17,7 +17,7 @@ pub fn run(script: &[u8]) {
     lines(&mut store, script);
 }
 
-// Each line works on the state that the last "state" or push left.
+// Each line works on the state that the last "state", push, take, raising or recovery left.
 fn lines(store: &mut [u8], script: &[u8]) {
     let mut state = State::fresh();
     let mut from: usize = 0;
@@ -37,16 +37,21 @@ fn act(store: &mut [u8], state: State, line: &[u8]) -> State {
         b's' => stated(line),
         b'e' => pushes::entries(store, line),
         b'l' => pushes::long(store, state, line),
+        b'W' => pushes::word(store, state, line),
+        b'T' => tails::taken(state),
+        b'L' => tails::lifted(state, line),
+        b'R' => tails::restarted(store, state, line),
         _ => state,
     }
 }
 
-// "state LENGTH LAST NEXT".
+// "state LENGTH LAST NEXT CEILING".
 fn stated(line: &[u8]) -> State {
     State {
         length: number(line, 1),
         last: number(line, 2),
         next: number(line, 3),
+        ceiling: number(line, 4),
     }
 }
 
@@ -64,7 +69,6 @@ fn ask(store: &[u8], state: State, what: u8, line: &[u8]) {
     match what {
         b't' => title(line),
         b'n' => name(line),
-        b'k' => tails::key(state),
         b'c' => tails::check(store, line),
         b'i' => lookups::ids(store, state, line),
         b'w' => lookups::within(store, state, line),

@@ -1,24 +1,75 @@
-// The state, taking ids, and the sound check and recovery of good and bad logs. Both are lent the store by `&`, so that no byte of it changes.
+// The state, ids taken and ceilings raised, and the sound check and recovery of good and bad logs. Both are lent the store by `&`, so that no byte of it changes.
 use crate::parts::number;
 use crate::say;
 use crate::script;
 use log::Checked;
+use log::Raised;
 use log::Recovered;
 use log::State;
 use log::Taken;
+use refusal::Refusal;
 
 // From "byte 0 1" on, ids 1, 2 and 3 on pages 0, 1 to 2, and 3.
 pub fn run() {
-    say::state(b"fresh: state #, #, #\n", State::fresh());
+    say::state(b"fresh: state #, #, #, #\n", State::fresh());
     script::run(
         b"name take from fresh
-key
-state 1024 7 18446744073709551614
-name take of 2^64-2
-key
-state 1024 7 18446744073709551615
+Take
+name the fresh state raised by 0
+Lift 0
+name raised by 2^32 + 1
+Lift 4294967297
+name raised by 2
+Lift 2
+name take
+Take
+name take
+Take
+name take
+Take
+name push (1, hello), and 2 is dropped
+Word 4096 - hello 1 - - 5 - -
+name recovered with the stored ceiling 3
+Restart 3
+query 2
+name raised by 1
+Lift 1
+name take
+Take
+name recovered with the stored ceiling 0
+Restart 0
+name raised by 1
+Lift 1
+name take
+Take
+name raised by 2^32
+Lift 4294967296
+state 0 0 1 18446744073709551614
+name ceiling 2^64-2, raised by 1
+Lift 1
+state 0 0 1 18446744073709551614
+name ceiling 2^64-2, raised by 2
+Lift 2
+state 1024 7 18446744073709551614 18446744073709551615
+name take of 2^64-2 below the ceiling 2^64-1
+Take
 name take of 2^64-1
-key
+Take
+state 1024 7 18446744073709551615 0
+name take of 2^64-1 above the ceiling 0
+Take
+state 1024 7 9 8
+name take of 9 above the ceiling 8
+Take
+state 0 0 7 9
+name no page, stored ceiling 0
+Restart 0
+name no page, stored ceiling 1
+Restart 1
+name no page, stored ceiling 2
+Restart 2
+name no page, stored ceiling 2^64-1
+Restart 18446744073709551615
 byte 0 1
 byte 3 8
 byte 11 1
@@ -134,17 +185,47 @@ check 4096 4096 id 2^64-1
     );
 }
 
-// "key": takes an id.
-pub fn key(state: State) {
-    let taken = state.take();
-    match taken {
+// Says a state, or a refusal that leaves another, and hands on which it is.
+fn told(state: State) -> State {
+    say::state(b"state #, #, #, #\n", state);
+    state
+}
+
+fn untold(refusal: Refusal, state: State) -> State {
+    say::refusal(refusal);
+    say::text(b"\n");
+    state
+}
+
+// "Take": takes an id, and hands on the state.
+pub fn taken(state: State) -> State {
+    match state.take() {
         Taken::Id { id, state: after } => {
             say::one(b"id #, ", id);
-            say::state(b"state #, #, #", after);
+            told(after)
         }
-        Taken::Refused(r) => say::refusal(r),
+        Taken::Refused(r) => untold(r, state),
     }
-    say::text(b"\n");
+}
+
+// "Lift STEP": raises the ceiling, and hands on the state.
+pub fn lifted(state: State, line: &[u8]) -> State {
+    match state.raise(number(line, 1)) {
+        Raised::To { state: after } => told(after),
+        Raised::Refused(r) => untold(r, state),
+    }
+}
+
+// "Restart CEILING": recovers the log of the state's length with a stored ceiling, and hands on the state.
+pub fn restarted(store: &[u8], state: State, line: &[u8]) -> State {
+    match log::recover(store, state.length, number(line, 1)) {
+        Recovered::At {
+            state: after,
+            excess: _,
+            dropped: _,
+        } => told(after),
+        Recovered::Refused(r) => untold(r, state),
+    }
 }
 
 fn say_checked(checked: Checked) {
@@ -166,14 +247,14 @@ pub fn say_recovered(recovered: Recovered) {
         } => {
             say::one(b"excess #, ", excess);
             say::one(b"dropped #, ", dropped);
-            say::state(b"state #, #, #", state);
+            say::state(b"state #, #, #, #", state);
         }
         Recovered::Refused(r) => say::refusal(r),
     }
     say::text(b"\n");
 }
 
-// "check SIZE LENGTH NAME": what the sound check and recovery say of a log in the store's first bytes.
+// "check SIZE LENGTH NAME": what the sound check, and recovery with the stored ceiling 0, say of a log in the store's first bytes.
 pub fn check(store: &[u8], line: &[u8]) {
     let size = number(line, 1) as usize;
     say::told(line, 3);
@@ -185,5 +266,5 @@ pub fn check(store: &[u8], line: &[u8]) {
 fn check_both(store: &[u8], length: u64) {
     say_checked(log::check(store, length));
     say::text(b"; recovery ");
-    say_recovered(log::recover(store, length));
+    say_recovered(log::recover(store, length, 0));
 }

@@ -1,6 +1,6 @@
 -- What a cut leaves: it shortens the log, but never below a sound front that it spares. Assumes nothing.
 use Prim.Native.Nat.{ℕ, _+_, _-_, _*_, _/_, _≤_, _<_}
-use mathlib.Core.Path.{_≡_, refl, ap, _∙_}
+use mathlib.Core.Path.{_≡_, refl, sym, ap, _∙_}
 use mathlib.Core.Logic.{⊎-elim}
 use mathlib.Core.List.{List, _++_}
 use native.Mathlib.Omega.{arith}
@@ -21,21 +21,21 @@ use Rattle.demands.specs.Recovery.{RightRecovery, empty, used-up, goes-o
 use Rattle.demands.specs.History.{World, world, logOf, cut-log, keptOf, answer, afterCut, step}
 use Rattle.demands.proofs.Push.Appending.{start-back}
 use Rattle.demands.proofs.Recovery.Cutting.{cut-right}
-use Rattle.demands.proofs.Recovery.Resuming.{by-recovery}
+use Rattle.demands.proofs.Recovery.Resuming.{Resumed, by-recovery}
 use Rattle.demands.proofs.History.Living.{Grows, grows-size, Over}
 
--- the world after a cut: as it was, or one over that front, with a recovered state
-pub data CutLeaves (base : List ℕ) (w : World) : World → Type 0 where
-  not-gone-on : CutLeaves base w w
-  gone-on : (v : World) → Over base v → v .state .next ≡ v .state .last + 1 → CutLeaves base w v
+-- the world after a cut: as it was, or one over that front, with a recovered state and a front of the log
+pub data CutLeaves (base : List ℕ) (w : World) (stored : ℕ) : World → Type 0 where
+  not-gone-on : CutLeaves base w stored w
+  gone-on : (v : World) → Over base v → Resumed (logOf v) stored (v .state) → Grows (logOf v) (logOf w) → CutLeaves base w stored v
 
 -- after a cut that recovery answers with 9: so many pages are left, and a state that the caller makes up for them
 pub record StandsFull (base : List ℕ) (w : World) (n : ℕ) (store : List ℕ) : Type 0 where
   pub left : ℕ
   pub is-left : Left (logOf w) (length (keptOf w n) / pageSize) left
-  pub over : Over base (world store (stateOf (left * pageSize) topId topId))
+  pub over : Over base (world store (stateOf (left * pageSize) topId topId topId))
 
-module _ (base : List ℕ) (sound : Sound base) (w : World) (o : Over base w) (n : ℕ) (spared : length base ≤ n) (rest : List ℕ) where
+module _ (base : List ℕ) (sound : Sound base) (w : World) (o : Over base w) (n : ℕ) (spared : length base ≤ n) (stored : ℕ) (rest : List ℕ) where
   abbrev log : List ℕ
   log = logOf w
 
@@ -46,10 +46,10 @@ module _ (base : List ℕ) (sound : Sound base) (w : World) (o : Over base w) (n
   store = kept ++ rest
 
   module _ (f : Fits store (length kept)) where
-    right : RightCut log (length kept) (recoverOf store (length kept))
+    right : RightCut log (length kept) stored (recoverOf store (length kept) stored)
     right =
         let whole = take-append-drop n log in
-        rw whole at (cut-right kept (drop n log) rest (rw whole (o .lives .good .sound)) f)
+        rw whole at (cut-right kept (drop n log) rest (rw whole (o .lives .good .sound)) f stored)
 
     abbrev left : ℕ
     left = right .left
@@ -107,30 +107,35 @@ module _ (base : List ℕ) (sound : Sound base) (w : World) (o : Over base w) (n
         grows = rw log-there grows-left;
       }
 
-    leaves-left : CutLeaves base w (afterCut w store (recoverOf store (length kept)))
-    leaves-left = by-recovery (λ r. CutLeaves base w (afterCut w store r)) not-gone-on
-        (λ st h. gone-on (world store st) (over-there st (h .size ∙ size-left) (h .last)) (h .next))
-        (recoverOf store (length kept)) (right .right)
+    -- what is left is a front of the log
+    left-grows : Grows (firstPages log left) log
+    left-grows = record { more = drop (left * pageSize) log; is = sym (take-append-drop (left * pageSize) log) }
 
-    full-left : recoverOf store (length kept) ≡ refused 9 0 → StandsFull base w n store
-    full-left e = go (recoverOf store (length kept)) e (right .right)
+    leaves-left : CutLeaves base w stored (afterCut w store (recoverOf store (length kept) stored))
+    leaves-left = by-recovery (λ r. CutLeaves base w stored (afterCut w store r)) not-gone-on
+        (λ st h. let there = log-there st (h .size ∙ size-left) (h .last) in
+        gone-on (world store st) (over-there st (h .size ∙ size-left) (h .last)) (rw there h) (rw there left-grows))
+        (recoverOf store (length kept) stored) (right .right)
+
+    full-left : recoverOf store (length kept) stored ≡ refused 9 0 → StandsFull base w n store
+    full-left e = go (recoverOf store (length kept) stored) e (right .right)
       where
-        go : (r : Recovering) → r ≡ refused 9 0 → RightRecovery (firstPages log left) (excessOf (length kept)) (length kept / pageSize - left) r → StandsFull base w n store
+        go : (r : Recovering) → r ≡ refused 9 0 → RightRecovery (firstPages log left) stored (excessOf (length kept)) (length kept / pageSize - left) r → StandsFull base w n store
         go r f (empty z) = absurd (let z : _≡_ {A = ℕ} 0 1 = cc in omega arith)
-        go r f (used-up p l u) = record { left = left; is-left = right .is-left; over = over-there (stateOf (left * pageSize) topId topId) refl (last-entry p l u) }
+        go r f (used-up p l u) = record { left = left; is-left = right .is-left; over = over-there (stateOf (left * pageSize) topId topId topId) refl (last-entry p l u) }
         go r f (goes-on p l u) = absurd (let z : _≡_ {A = ℕ} 0 1 = cc in omega arith)
 
   -- THE LAW: a cut at or above the front leaves a world over it
-  pub cut-leaves : CutLeaves base w (step w (cut-log n rest))
+  pub cut-leaves : CutLeaves base w stored (step w (cut-log n stored rest))
   unfolding step answer
   cut-leaves = ⊎-elim
-      (λ t. rw (← recover-bad store (length kept) t) not-gone-on)
+      (λ t. rw (← recover-bad store (length kept) stored t) not-gone-on)
       (λ t. leaves-left (fitting store (length kept) t))
       (which (tooLong store (length kept)))
 
-  pub cut-full : recoverOf store (length kept) ≡ refused 9 0 → StandsFull base w n store
+  pub cut-full : recoverOf store (length kept) stored ≡ refused 9 0 → StandsFull base w n store
   cut-full e = ⊎-elim
-      (λ t. absurd (let bad = recover-bad store (length kept) t in let z : _≡_ {A = ℕ} 1 9 = ap numbered (bad ∙ e) in omega arith))
+      (λ t. absurd (let bad = recover-bad store (length kept) stored t in let z : _≡_ {A = ℕ} 1 9 = ap numbered (bad ∙ e) in omega arith))
       (λ t. full-left (fitting store (length kept) t) e)
       (which (tooLong store (length kept)))
     where

@@ -34,14 +34,14 @@ use Rattle.demands.proofs.History.Moving.{lives-step, lives-run, over-r
 
 module _ (w : World) (b : Begun w) where
   good : Good (w .store) (w .state .length)
-  good = recovered-good (w .store) (b .size) (w .state) (b .excess) (b .dropped) (b .is)
+  good = recovered-good (w .store) (b .size) (b .stored) (w .state) (b .excess) (b .dropped) (b .is)
 
   -- recovery of the log that is left gives the same state
-  resumed : Resumed (logOf w) (w .state)
+  pub resumed : Resumed (logOf w) (b .stored) (w .state)
   resumed =
       let n = w .state .length in
       let e = no-excess (w .store) n (good .whole) in
-      rw e at (recovered-resumes (w .store) n (w .state) 0 0 (rw e (b .sound)) (recovered-again (w .store) (b .size) (w .state) (b .excess) (b .dropped) (b .is)))
+      rw e at (recovered-resumes (w .store) n (b .stored) (w .state) 0 0 (rw e (b .sound)) (recovered-again (w .store) (b .size) (b .stored) (w .state) (b .excess) (b .dropped) (b .is)))
 
   pub begun-lives : Lives w
   begun-lives = record { good = record { fits = good .fits; sound = b .sound }; last = resumed .last }
@@ -120,12 +120,12 @@ module _ (v : World) (i : Lives v) (id : ℕ) (h : Settled v id) where
   kept-later = kept-from v (over-none v i) h
 
   -- and after a cut then that recovery answers with 9, with a state that the caller makes up
-  pub kept-full : (later : List Call) → AllSpare (v .state .length) later → (n : ℕ) (rest : List ℕ) → v .state .length ≤ n
-      → recoverOf (keptOf (run v later) n ++ rest) (length (keptOf (run v later) n)) ≡ refused 9 0 → id < topId
+  pub kept-full : (later : List Call) → AllSpare (v .state .length) later → (n stored : ℕ) (rest : List ℕ) → v .state .length ≤ n
+      → recoverOf (keptOf (run v later) n ++ rest) (length (keptOf (run v later) n)) stored ≡ refused 9 0 → id < topId
       → KeepsFull (run v later) n rest id (standsIn v id) (standingData (logOf v) (standsIn v id)) (v .state .length)
-  kept-full later spare n rest l e below =
+  kept-full later spare n stored rest l e below =
       let o = settled-run v i id h v (over-none v i) h later spare .0 in
-      let f = cut-full (logOf v) (i .good .sound) (run v later) o n (rw (sound-length (i .good)) l) rest e in
+      let f = cut-full (logOf v) (i .good .sound) (run v later) o n (rw (sound-length (i .good)) l) stored rest e in
       record {
         left = f .left;
         is-left = f .is-left;
@@ -224,9 +224,9 @@ read-back w b earlier ids ends bytes words k c =
 -- 11.7: from a sound log and its recovered state, after any calls, a push of any batch that is cut at any byte
 pub torn-in-history : (w : World) → Begun w → (earlier : List Call) (ids ends bytes : List ℕ) → Words ids → (n : ℕ)
     → run w earlier .state .length ≤ n → n ≤ outcome (pushing (run w earlier) ids ends bytes) .answer .state .length
-    → (rest : List ℕ) → Fits (take n (outcome (pushing (run w earlier) ids ends bytes) .store) ++ rest) n
-    → Torn (pushing (run w earlier) ids ends bytes) n (take n (outcome (pushing (run w earlier) ids ends bytes) .store) ++ rest)
-    (recoverOf (take n (outcome (pushing (run w earlier) ids ends bytes) .store) ++ rest) n)
+    → (rest : List ℕ) → Fits (take n (outcome (pushing (run w earlier) ids ends bytes) .store) ++ rest) n → (stored : ℕ)
+    → Torn (pushing (run w earlier) ids ends bytes) n stored (take n (outcome (pushing (run w earlier) ids ends bytes) .store) ++ rest)
+    (recoverOf (take n (outcome (pushing (run w earlier) ids ends bytes) .store) ++ rest) n stored)
 torn-in-history w b earlier ids ends bytes words =
     let i = lives-run w (begun-lives w b) earlier in
     torn (pushing (run w earlier) ids ends bytes) words (i .good) (i .last)

@@ -17,7 +17,7 @@ use Rattle.log.specs.Lookup.{Looking, found, absent, refused, findOf, lookupOf}
 use Rattle.log.proofs.Laws.Lookup.Handing.{found-copied, absent-nothing}
 use Rattle.demands.specs.Sound.{Start, Sound, Stored, Missing}
 use Rattle.demands.specs.Lookup.{Standing, present, missing, unsaid, standing, RightStanding}
-use Rattle.demands.specs.History.{World, logOf, push, take-id, find, lookup, scan, step-on, recover, lend, cut-log, answer, ExactlyStored, LooksUp, Answers}
+use Rattle.demands.specs.History.{World, logOf, push, take-id, raise, find, lookup, scan, step-on, recover, lend, cut-log, answer, ExactlyStored, LooksUp, Answers}
 use Rattle.demands.proofs.Push.Appending.{start-kept, start-back}
 
 module _ (log x : List ℕ) (t : Sound (log ++ x)) (id q : ℕ) (h : Start log q) (most : id ≤ idAt log q) where
@@ -115,10 +115,11 @@ pub right-answers : (w : World) (id : ℕ) (r : Standing) → standing (findOf (
 unfolding answer
 right-answers w id r e f (push ids ends bytes words) = tt
 right-answers w id r e f take-id = tt
+right-answers w id r e f (raise by) = tt
 right-answers w id r e f (find i) = λ q. record { look = findOf (w .store) (w .state) i; is = refl; stands = rw q e }
 right-answers w id r e f (lookup i out) = λ q enough. gives-lookup w id r e f i out q enough
 right-answers w id r e f (scan range) = tt
 right-answers w id r e f (step-on range cursor out) = tt
-right-answers w id r e f recover = tt
+right-answers w id r e f (recover stored) = tt
 right-answers w id r e f (lend rest) = tt
-right-answers w id r e f (cut-log n rest) = tt
+right-answers w id r e f (cut-log n stored rest) = tt

@@ -5,12 +5,14 @@ use mathlib.Core.Bool.{Bool, true, false}
 use mathlib.Core.Logic.{_⊎_, inl, inr, ⊎-elim}
 use mathlib.Core.List.{List, [], _∷_, _++_, append-nil}
 use native.Mathlib.Omega.{arith}
-use lib.Dec.{eqb}
+use lib.Dec.{eqb, ltb}
 use lib.ListN.{length, take}
 use lib.Seq.{take-at}
 use Rattle.refusal.specs.Pick.{pick}
+use Rattle.refusal.proofs.Cases.{either}
 use Rattle.log.specs.Bounds.{tooLong}
-use Rattle.log.specs.State.{taken, refused as untaken, stateOf, topId, takeOf}
+use Rattle.log.specs.State.{Taking, stateOf, topId, takeOf}
+use Rattle.log.specs.Raise.{Raising, badStep, raiseOf}
 use Rattle.pushing.specs.Push.{pushOf}
 use Rattle.log.specs.Recovery.{Recovering, recoverOf, excessOf}
 use Rattle.log.specs.declared.state.State.{State}
@@ -18,8 +20,8 @@ use Rattle.log.proofs.Laws.Bounds.{fitting}
 use Rattle.demands.specs.Sound.{Sound}
 use Rattle.demands.specs.Push.{batchPages}
 use Rattle.demands.specs.Recovery.{RightRecovery}
-use Rattle.demands.specs.History.{World, world, logOf, Words, Call, push, take-id, find, lookup, scan, step-on, recover, lend, cut-log}
-use Rattle.demands.specs.History.{anotherStore, answer, stateAfterTake, stateAfterRecovery, step, run, Spares, AllSpare, Settled}
+use Rattle.demands.specs.History.{World, world, logOf, Words, Call, push, take-id, raise, find, lookup, scan, step-on, recover, lend, cut-log}
+use Rattle.demands.specs.History.{anotherStore, answer, stateAfterTake, stateAfterRaise, stateAfterRecovery, step, run, Spares, AllSpare, Settled}
 use Rattle.demands.proofs.Sound.{sound-good, sound-length}
 use Rattle.demands.proofs.Last.{last-stored-unique, last-stored-ready}
 use Rattle.demands.proofs.Push.Batch.{push-grows, push-right, push-last-stored}
@@ -44,10 +46,11 @@ over-then o m = record { lives = m .over .lives; grows = grows-then (o .grows) (
 
 pub record IsCut (c : Call) : Type 0 where
   pub bytes : ℕ
+  pub stored : ℕ
   pub rest : List ℕ
-  pub is : c ≡ cut-log bytes rest
+  pub is : c ≡ cut-log bytes stored rest
 
--- next alone moved
+-- next and the ceiling alone moved
 restated : (w : World) (st : State) → Lives w → st .length ≡ w .state .length → st .last ≡ w .state .last
     → ((id : ℕ) → Settled w id → id < st .next) → Moved w (world (w .store) st)
 restated w st i e l next = record {
@@ -71,24 +74,31 @@ module _ (w : World) (i : Lives w) where
 
   moved-take : Moved w (world (w .store) (stateAfterTake (w .state) (takeOf (w .state))))
   unfolding takeOf
-  moved-take = go (eqb (w .state .next) topId)
+  moved-take = either Leaves (eqb (w .state .next) topId) (moved-none w i)
+      (either Leaves (ltb (w .state .next) (w .state .ceiling)) (restated w (stateOf (w .state .length) (w .state .last) (w .state .next + 1) (w .state .ceiling)) i refl refl (λ id h. omega (arith, h .below))) (moved-none w i))
     where
-      go : (t : Bool) → Moved w (world (w .store) (stateAfterTake (w .state) (pick t (untaken 9 0) (taken (w .state .next) (stateOf (w .state .length) (w .state .last) (w .state .next + 1))))))
-      go true = moved-none w i
-      go false = restated w (stateOf (w .state .length) (w .state .last) (w .state .next + 1)) i refl refl (λ id h. omega (arith, h .below))
+      Leaves : Taking → Type 0
+      Leaves r = Moved w (world (w .store) (stateAfterTake (w .state) r))
 
-  moved-recovery : (excess : ℕ) (r : Recovering) → RightRecovery (logOf w) excess 0 r → Moved w (world (w .store) (stateAfterRecovery (w .state) r))
-  moved-recovery excess = by-recovery {excess = excess} {dropped = 0} (λ r. Moved w (world (w .store) (stateAfterRecovery (w .state) r)))
+  moved-raise : (by : ℕ) → Moved w (world (w .store) (stateAfterRaise (w .state) (raiseOf (w .state) by)))
+  unfolding raiseOf
+  moved-raise by = either Leaves (badStep (w .state .ceiling) by) (moved-none w i) (restated w (stateOf (w .state .length) (w .state .last) (w .state .next) (w .state .ceiling + by)) i refl refl (λ id h. h .below))
+    where
+      Leaves : Raising → Type 0
+      Leaves r = Moved w (world (w .store) (stateAfterRaise (w .state) r))
+
+  moved-recovery : (stored excess : ℕ) (r : Recovering) → RightRecovery (logOf w) stored excess 0 r → Moved w (world (w .store) (stateAfterRecovery (w .state) r))
+  moved-recovery stored excess = by-recovery {stored = stored} {excess = excess} {dropped = 0} (λ r. Moved w (world (w .store) (stateAfterRecovery (w .state) r)))
       (moved-none w i)
       (λ st h.
       let e = last-stored-unique (logOf w) (st .last) (w .state .last) (h .last) (i .last) in
       restated w st i (h .size ∙ sound-length (i .good)) e (λ id s. omega (arith, h .next, e, s .most)))
 
   -- a recovery at the log's current length
-  recovery-right : RightRecovery (logOf w) (excessOf (w .state .length)) 0 (recoverOf (w .store) (w .state .length))
-  recovery-right =
+  pub recovery-right : (stored : ℕ) → RightRecovery (logOf w) stored (excessOf (w .state .length)) 0 (recoverOf (w .store) (w .state .length) stored)
+  recovery-right stored =
       let e = no-excess (w .store) (w .state .length) (sound-good (i .good) .whole) in
-      rw e at (recover-right (w .store) (w .state .length) (i .good .fits) (rw e (i .good .sound)))
+      rw e at (recover-right (w .store) (w .state .length) stored (i .good .fits) (rw e (i .good .sound)))
 
   moved-lent : (rest : List ℕ) → Moved w (world (anotherStore w rest) (w .state))
   unfolding anotherStore
@@ -110,25 +120,26 @@ module _ (w : World) (i : Lives w) where
   unfolding step answer
   moved (push ids ends bytes words) = inl (moved-push ids ends bytes words)
   moved take-id = inl moved-take
+  moved (raise by) = inl (moved-raise by)
   moved (find id) = inl (moved-none w i)
   moved (lookup id out) = inl (moved-none w i)
   moved (scan range) = inl (moved-none w i)
   moved (step-on range cursor out) = inl (moved-none w i)
-  moved recover = inl (moved-recovery (excessOf (w .state .length)) _ recovery-right)
+  moved (recover stored) = inl (moved-recovery stored (excessOf (w .state .length)) _ (recovery-right stored))
   moved (lend rest) = inl (moved-lent rest)
-  moved (cut-log n rest) = inr (record { bytes = n; rest = rest; is = refl })
+  moved (cut-log n stored rest) = inr (record { bytes = n; stored = stored; rest = rest; is = refl })
 
 -- ---- any call, as long as no cut falls into what stands below
 
 module _ (base : List ℕ) (sound : Sound base) where
-  cut-over : {w v : World} → Over base w → CutLeaves base w v → Over base v
+  cut-over : {w v : World} {stored : ℕ} → Over base w → CutLeaves base w stored v → Over base v
   cut-over o not-gone-on = o
-  cut-over o (gone-on v p next) = p
+  cut-over o (gone-on v p resumed front) = p
 
   over-step : (w : World) → Over base w → (c : Call) → Spares (length base) c → Over base (step w c)
   over-step w o c spares = ⊎-elim
       (over-then o)
-      (λ k. rw (k .is) (cut-over o (cut-leaves base sound w o (k .bytes) (rw (k .is) at spares) (k .rest))))
+      (λ k. rw (k .is) (cut-over o (cut-leaves base sound w o (k .bytes) (rw (k .is) at spares) (k .stored) (k .rest))))
       (moved w (o .lives) c)
 
   pub over-run : (w : World) → Over base w → (cs : List Call) → AllSpare (length base) cs → Over base (run w cs)
@@ -141,17 +152,17 @@ module _ (v : World) (i : Lives v) (id : ℕ) (h : Settled v id) where
   size : length (logOf v) ≡ v .state .length
   size = sound-length (i .good)
 
-  -- a recovered state has a last id at or above that of the front, and next is one more
-  cut-settled : {w u : World} → Settled w id → CutLeaves (logOf v) w u → Settled u id
+  -- a recovered state has a last id at or above that of the front, and next is above it
+  cut-settled : {w u : World} {stored : ℕ} → Settled w id → CutLeaves (logOf v) w stored u → Settled u id
   cut-settled k not-gone-on = k
-  cut-settled k (gone-on u o next) =
+  cut-settled k (gone-on u o resumed front) =
       let rises = over-rises v i o in
-      record { some = h .some; most = omega (arith, h .most, rises); below = omega (arith, h .most, rises, next) }
+      record { some = h .some; most = omega (arith, h .most, rises); below = omega (arith, h .most, rises, resumed .next) }
 
   settled-step : (w : World) → Over (logOf v) w → Settled w id → (c : Call) → Spares (v .state .length) c → Settled (step w c) id
   settled-step w o k c spares = ⊎-elim
       (λ m. m .settled id k)
-      (λ j. rw (j .is) (cut-settled k (cut-leaves (logOf v) (i .good .sound) w o (j .bytes) (rw (j .is, ← size) at spares) (j .rest))))
+      (λ j. rw (j .is) (cut-settled k (cut-leaves (logOf v) (i .good .sound) w o (j .bytes) (rw (j .is, ← size) at spares) (j .stored) (j .rest))))
       (moved w (o .lives) c)
 
   pub settled-run : (w : World) → Over (logOf v) w → Settled w id → (cs : List Call) → AllSpare (v .state .length) cs → Over (logOf v) (run w cs) × Settled (run w cs) id
@@ -166,14 +177,18 @@ module _ (v : World) (i : Lives v) (id : ℕ) (h : Settled v id) where
 over-nothing : (w : World) → Lives w → Over [] w
 over-nothing w i = record { lives = i; grows = record { more = logOf w; is = refl } }
 
+sound-nothing : (w : World) → Lives w → Sound []
+sound-nothing w i = sound-front (logOf w) 0 (omega arith) (i .good .sound) (λ p h l. absurd (omega arith))
+
+-- so any cut leaves a world of the history
+pub any-cut : (w : World) → Lives w → (n stored : ℕ) (rest : List ℕ) → CutLeaves [] w stored (step w (cut-log n stored rest))
+any-cut w i n stored rest = cut-leaves [] (sound-nothing w i) w (over-nothing w i) n (omega arith) stored rest
+
 pub lives-step : (w : World) → Lives w → (c : Call) → Lives (step w c)
 lives-step w i c = ⊎-elim
     (λ m. m .over .lives)
-    (λ k. rw (k .is) (cut-over [] sound-nothing (over-nothing w i) (cut-leaves [] sound-nothing w (over-nothing w i) (k .bytes) (omega arith) (k .rest)) .lives))
+    (λ k. rw (k .is) (cut-over [] (sound-nothing w i) (over-nothing w i) (any-cut w i (k .bytes) (k .stored) (k .rest)) .lives))
     (moved w i c)
-  where
-    sound-nothing : Sound []
-    sound-nothing = sound-front (logOf w) 0 (omega arith) (i .good .sound) (λ p h l. absurd (omega arith))
 
 pub lives-run : (w : World) → Lives w → (cs : List Call) → Lives (run w cs)
 unfolding run

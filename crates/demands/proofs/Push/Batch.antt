@@ -62,6 +62,10 @@ module _ (id : ℕ) (d : List ℕ) (p : Point) (inside : p .state .length ≤ le
   unfolding wrote
   wrote-next = refl
 
+  wrote-ceiling : next .state .ceiling ≡ p .state .ceiling
+  unfolding wrote
+  wrote-ceiling = refl
+
 wrote-last : (id : ℕ) (d : List ℕ) (p : Point) → wrote id d p .state .last ≡ id
 unfolding wrote
 wrote-last id d p = refl
@@ -105,11 +109,12 @@ record GrownFrom (log₀ ids ends bytes : List ℕ) (p : Point) (r : Done) : Typ
   pub reach : p .state .length ≤ r .answer .state .length
   pub size : length (r .store) ≡ length (p .store)
   pub next : r .answer .state .next ≡ p .state .next
+  pub ceiling : r .answer .state .ceiling ≡ p .state .ceiling
 
 module _ (log₀ ids ends bytes : List ℕ) where
   -- nothing more is written
   grown-none : (j : ℕ) (p : Point) (why : Why) → logAt p ≡ log₀ ++ batchPages ids ends bytes j → GrownFrom log₀ ids ends bytes p (done why j p)
-  grown-none j p why l = record { log = l; after = refl; reach = omega arith; size = refl; next = refl }
+  grown-none j p why l = record { log = l; after = refl; reach = omega arith; size = refl; next = refl; ceiling = refl }
 
   module _ (j : ℕ) (p : Point) (inside : p .state .length ≤ length (p .store)) (fits : bytesFor (entryData ends bytes j) ≤ length (p .store) - p .state .length) where
     abbrev id : ℕ
@@ -132,6 +137,7 @@ module _ (log₀ ids ends bytes : List ℕ) where
       reach = omega (arith, h .reach, wrote-length id d p inside fits);
       size = h .size ∙ wrote-size id d p inside fits;
       next = h .next ∙ wrote-next id d p inside fits;
+      ceiling = h .ceiling ∙ wrote-ceiling id d p inside fits;
     }
 
   grown-from : (n j : ℕ) (p : Point) → p .state .length ≤ length (p .store) → logAt p ≡ log₀ ++ batchPages ids ends bytes j → GrownFrom log₀ ids ends bytes p (entriesFrom ids ends bytes n j p)
@@ -164,7 +170,7 @@ module _ (store : List ℕ) (st : State) (ids ends bytes : List ℕ) where
       refused-all number = grown-none log-before ids ends bytes 0 (point st store) (refused number 0) none-yet
 
   pub push-grows : Grown store st ids ends bytes (pushOf store st ids ends bytes)
-  push-grows = record { log = grown .log; after = grown .after; size = grown .size; next = grown .next }
+  push-grows = record { log = grown .log; after = grown .after; size = grown .size; next = grown .next; ceiling = grown .ceiling }
 
 -- ---- THEOREM: on any input a push leaves what the entries that it counts leave, and nothing of the one that is refused
 

@@ -9,7 +9,7 @@ use Rattle.pushing.specs.Push.{Point, point, Done, entriesFrom, pushOf}
 use Rattle.demands.specs.History.{Words}
 use Rattle.demands.proofs.Push.Ways.{by-batch, by-turn}
 
-pub full-hands-none : (n : ℕ) → takeOf (stateOf n topId topId) ≡ refused 9 0
+pub full-hands-none : (n : ℕ) → takeOf (stateOf n topId topId topId) ≡ refused 9 0
 unfolding takeOf
 full-hands-none n = refl
 
@@ -19,7 +19,7 @@ NoneWritten r = r .answer .written ≡ 0
 
 module _ (store : List ℕ) (n : ℕ) (ids ends bytes : List ℕ) (words : Words ids) where
   abbrev here : Point
-  here = point (stateOf n topId topId) store
+  here = point (stateOf n topId topId topId) store
 
   none-from : (k : ℕ) → NoneWritten (entriesFrom ids ends bytes k 0 here)
   unfolding NoneWritten entriesFrom
@@ -30,6 +30,6 @@ module _ (store : List ℕ) (n : ℕ) (ids ends bytes : List ℕ) (words : Words
       (λ a b c. refl)
       (λ a b c. absurd (omega (arith, words 0)))
 
-  pub full-takes-none : pushOf store (stateOf n topId topId) ids ends bytes .answer .written ≡ 0
+  pub full-takes-none : pushOf store (stateOf n topId topId topId) ids ends bytes .answer .written ≡ 0
   unfolding NoneWritten
-  full-takes-none = by-batch store (stateOf n topId topId) ids ends bytes NoneWritten refl refl refl (λ l. none-from (length ids))
+  full-takes-none = by-batch store (stateOf n topId topId topId) ids ends bytes NoneWritten refl refl refl (λ l. none-from (length ids))

@@ -1,7 +1,7 @@
 -- Where the entries of a batch lie in the log that the push leaves. Assumes nothing.
 use Prim.Native.Nat.{ℕ, zero, suc, _+_, _*_, _%_, _≤_, _<_}
 use mathlib.Core.Path.{_≡_, refl, sym, ap, _∙_}
-use mathlib.Core.Logic.{⊎-elim}
+use mathlib.Core.Logic.{_⊎_, inl, inr, ⊎-elim}
 use mathlib.Core.List.{List, [], _++_, append-assoc, append-nil}
 use native.Mathlib.Omega.{arith}
 use lib.ListN.{length, getD, take, length-append}
@@ -141,6 +141,26 @@ module _ (q : Push) (words : Words (q .ids)) (ready : Ready (q .store) (q .state
     entry-after =
         let size : lengthAt log (pageOf j) ≡ idSize + length (dataIn q j) = rw held-there at (is-right .held j c .size) in
         rw size (sym (next-page j))
+
+  -- a start of the log after the push was there before, or is that of an entry of the batch
+  pub record OfBatch (p : ℕ) : Type 0 where
+    pub place : ℕ
+    pub counted : Counted q place
+    pub there : p ≡ pageOf place
+
+  module _ (p : ℕ) (h : Start log p) where
+    below-page : (k : ℕ) → k ≤ outcome q .answer .written → p < pageOf k → (p < pageOf 0) ⊎ OfBatch p
+    below-page zero l b = inl b
+    below-page (suc k) l b = ⊎-elim (below-page k (omega arith)) (λ a. inr (record { place = k; counted = l; there = there a })) (side p (pageOf k))
+      where
+        there : pageOf k ≤ p → p ≡ pageOf k
+        there a = ⊎-elim
+            (λ e. sym e)
+            (⊎-elim (λ over. absurd (omega (arith, sound-after .apart (pageOf k) p (entry-start k l) h over, entry-after k l))) (λ under. absurd (omega arith)))
+            (order (pageOf k) p)
+
+    pub start-of : (p < pageOf 0) ⊎ OfBatch p
+    start-of = below-page (outcome q .answer .written) (omega arith) (omega (arith, h .inside, ap pageCount is-with-all))
 
   -- no entry before entry k goes on after it starts
   pub closed-with : (k : ℕ) → k ≤ outcome q .answer .written → Closed log (pageOf k)

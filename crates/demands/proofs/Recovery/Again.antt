@@ -1,5 +1,5 @@
 -- On any bytes: what is left, dropped and cut off adds up; recovery of what is left gives the same state and drops nothing; and the entry at which it ended stands apart. Assumes nothing.
-use Prim.Native.Nat.{ℕ, zero, suc, _+_, _-_, _*_, _≤_, _<_}
+use Prim.Native.Nat.{ℕ, zero, suc, _+_, _-_, _*_, _≤_, _<_, max}
 use mathlib.Core.Path.{_≡_, refl, sym, ap, _∙_}
 use mathlib.Core.Logic.{_⊎_, inl, inr, ⊎-elim}
 use mathlib.Core.List.{List}
@@ -13,8 +13,8 @@ use Rattle.page.specs.Entry.{Starting, short, cut, whole, afterAt, entryAt}
 use Rattle.page.proofs.Marking.{mark-cases}
 use Rattle.page.proofs.Starting.{is-whole}
 use Rattle.log.specs.Bounds.{Fits, Good}
-use Rattle.log.specs.State.{fresh, recoveredAt, topId}
-use Rattle.log.specs.Recovery.{recovered, refused, atWhole, firstPages, walkBack, excessOf, wholePages, recoverLog, recoverOf}
+use Rattle.log.specs.State.{fresh, recoveredAt, resumedAbove, topId}
+use Rattle.log.specs.Recovery.{Recovering, recovered, refused, atWhole, firstPages, walkBack, excessOf, wholePages, aboveStored, recoverLog, recoverOf}
 use Rattle.log.specs.declared.state.State.{State}
 use Rattle.log.proofs.Laws.Bounds.{not-too-long, length-log}
 use Rattle.log.proofs.Laws.Recovery.Steps.{whole-used, whole-goes-on, back-later, back-bad, back-short, back-cut, back-whole, back-fresh, back-none, length-first, count-first, first-first, all-pages, from-last, recover-cut}
@@ -131,7 +131,21 @@ same-all log excess st said dropped all e =
     same-from log (pageCount log) excess st said dropped (pageCount log) (pageCount log) (omega arith) (omega arith)
     (λ p a b. absurd (omega arith)) (rw all (sym (from-last log excess) ∙ e))
 
-module _ (store : List ℕ) (n : ℕ) (st : State) (excess dropped : ℕ) (e : recoverOf store n ≡ recovered st excess dropped) where
+-- ---- the log's own state, before the stored ceiling
+
+record Beneath (stored : ℕ) (r : Recovering) (st : State) (excess dropped : ℕ) : Type 0 where
+  pub own : State
+  pub is : r ≡ recovered own excess dropped
+  pub lifted : resumedAbove stored own ≡ st
+
+beneath : (stored : ℕ) (r : Recovering) (st : State) (excess dropped : ℕ) → aboveStored stored r ≡ recovered st excess dropped → Beneath stored r st excess dropped
+beneath stored (recovered own said gone) st excess dropped e =
+    let f : said ≡ excess = cc in
+    let g : gone ≡ dropped = cc in
+    record { own = own; is = rw (f, g); lifted = cc }
+beneath stored (refused number value) st excess dropped e = absurd (not-refused st excess dropped number value e)
+
+module _ (store : List ℕ) (n stored : ℕ) (st : State) (excess dropped : ℕ) (e : recoverOf store n stored ≡ recovered st excess dropped) where
   abbrev w : ℕ
   w = n - excessOf n
 
@@ -139,39 +153,64 @@ module _ (store : List ℕ) (n : ℕ) (st : State) (excess dropped : ℕ) (e : r
   log = wholePages store n
 
   f : Fits store n
-  f = recovered-fits store n st excess dropped e
+  f = recovered-fits store n stored st excess dropped e
 
   size : length log ≡ w
   size = length-log store w (omega (arith, f .inside))
 
-  s : Same log (pageCount log) (excessOf n) st excess dropped
-  s =
-      same-all log (excessOf n) st excess dropped
-      (all-pages log (pageCount log) refl (omega (arith, size)))
-      (recover-cut store n (not-too-long store n f) w (sym size) refl ∙ e)
+  b : Beneath stored (recoverLog log (excessOf n)) st excess dropped
+  b = beneath stored (recoverLog log (excessOf n)) st excess dropped (recover-cut store n stored (not-too-long store n f) w (sym size) refl ∙ e)
+
+  s : Same log (pageCount log) (excessOf n) (b .own) excess dropped
+  s = same-all log (excessOf n) (b .own) excess dropped (all-pages log (pageCount log) refl (omega (arith, size))) (b .is)
+
+  same-length : st .length ≡ b .own .length
+  same-length = ap (λ (x : State). x .length) (sym (b .lifted))
+
+  same-last : st .last ≡ b .own .last
+  same-last = ap (λ (x : State). x .last) (sym (b .lifted))
 
   -- ---- THEOREM: what is left, what was dropped and the excess add up
 
   pub recovered-adds-up : st .length + dropped * pageSize + excess ≡ n
-  recovered-adds-up = omega (arith, s .size, s .told, s .gone, s .inside, size)
+  recovered-adds-up = omega (arith, same-length, s .size, s .told, s .gone, s .inside, size)
 
   -- ---- THEOREM: recovery of what is left
 
   -- no call refuses its state
   pub recovered-good : Good store (st .length)
-  recovered-good = record { fits = record { small = f .small; inside = omega (arith, f .inside, s .size, s .inside, size) }; whole = omega (arith, s .size) }
+  recovered-good = record {
+    fits = record { small = f .small; inside = omega (arith, f .inside, same-length, s .size, s .inside, size) };
+    whole = omega (arith, same-length, s .size);
+  }
 
-  pub recovered-again : recoverOf store (st .length) ≡ recovered st 0 0
-  recovered-again =
+  again-with : (c : ℕ) → resumedAbove c (b .own) ≡ st → recoverOf store (st .length) c ≡ recovered st 0 0
+  again-with c same =
       let g = recovered-good in
-      let inside : st .length ≤ w = omega (arith, s .size, s .inside, size) in
+      let inside : st .length ≤ w = omega (arith, same-length, s .size, s .inside, size) in
       let there = length-log store (st .length) (g .fits .inside) in
       let none : excessOf (st .length) ≡ 0 = g .whole in
-      let front : take (st .length) store ≡ firstPages log (s .left) = rw (← s .size) (sym (take-take (st .length) w store inside)) in
-      sym (recover-cut store (st .length) (not-too-long store (st .length) (g .fits)) (st .length) (sym there) (omega (arith, g .whole)))
-      ∙ (rw (none, front) (s .again))
+      let own : st .length ≡ s .left * pageSize = same-length ∙ s .size in
+      let front : take (st .length) store ≡ firstPages log (s .left) = rw (← own) (sym (take-take (st .length) w store inside)) in
+      sym (recover-cut store (st .length) c (not-too-long store (st .length) (g .fits)) (st .length) (sym there) (omega (arith, g .whole)))
+      ∙ (rw (none, front) (ap (aboveStored c) (s .again)))
+      ∙ ap (λ (x : State). recovered x 0 0) same
+
+  -- with the ceiling that was stored
+  pub recovered-again : recoverOf store (st .length) stored ≡ recovered st 0 0
+  recovered-again = again-with stored (b .lifted)
+
+  -- and with the one that was answered
+  pub recovered-again-above : recoverOf store (st .length) (st .ceiling) ≡ recovered st 0 0
+  recovered-again-above =
+      let c : st .ceiling ≡ max (b .own .next) stored = ap (λ (x : State). x .ceiling) (sym (b .lifted)) in
+      let same : max (b .own .next) (st .ceiling) ≡ max (b .own .next) stored = omega (arith, c) in
+      again-with (st .ceiling) (rw same (b .lifted))
 
   -- ---- THEOREM: no entry that starts later lies inside the one at which recovery ended
 
   pub recovered-apart : (st .length ≡ 0) ⊎ EndedAt log st
-  recovered-apart = ⊎-elim (λ z. inl (omega (arith, s .size, z))) inr (s .ended)
+  recovered-apart = ⊎-elim
+      (λ z. inl (omega (arith, same-length, s .size, z)))
+      (λ h. inr (record { page = h .page; apart = h .apart; has = h .has ∙ sym same-last }))
+      (s .ended)

@@ -13,7 +13,7 @@ use Rattle.page.specs.Entry.{cut, whole, idAt, dataLengthAt, afterAt, entryAt}
 use Rattle.page.proofs.Starting.{whole-at, cut-at, after-start}
 use Rattle.log.specs.Bounds.{Fits}
 use Rattle.log.specs.State.{topId}
-use Rattle.log.specs.Recovery.{Recovering, atWhole, firstPages, walkBack, excessOf, recoverLog, recoverOf}
+use Rattle.log.specs.Recovery.{Recovering, atWhole, firstPages, walkBack, excessOf, aboveStored, recoverLog, recoverOf}
 use Rattle.log.proofs.Laws.Bounds.{not-too-long}
 use Rattle.log.proofs.Laws.Recovery.Steps.{whole-used, whole-goes-on, back-later, back-cut, back-whole, back-fresh, length-first, count-first, first-first, from-last, recover-cut}
 use Rattle.demands.specs.Sound.{Start, Sound, Last}
@@ -29,7 +29,7 @@ module _ (log : List ℕ) (s : Sound log) (m : ℕ) (inside : m ≤ pageCount lo
 
   -- ---- the walk back in its first m pages comes to the last start
 
-  module _ (pages excess : ℕ) where
+  module _ (pages excess stored : ℕ) where
     abbrev walk : ℕ → Recovering
     walk q = walkBack pages excess front q
 
@@ -66,7 +66,7 @@ module _ (log : List ℕ) (s : Sound log) (m : ℕ) (inside : m ≤ pageCount lo
     -- ---- and gives what is right, if none of their entries goes on after them
 
     abbrev Right : Type 0
-    Right = RightRecovery front excess (pages - m) (walk m)
+    Right = RightRecovery front stored excess (pages - m) (aboveStored stored (walk m))
 
     right-none : m ≡ 0 → Right
     right-none z =
@@ -100,12 +100,12 @@ module _ (log : List ℕ) (s : Sound log) (m : ℕ) (inside : m ≤ pageCount lo
 
 -- ---- what is left of any first m pages
 
-module _ (log : List ℕ) (s : Sound log) (m : ℕ) (inside : m ≤ pageCount log) (pages excess : ℕ) where
+module _ (log : List ℕ) (s : Sound log) (m : ℕ) (inside : m ≤ pageCount log) (pages excess stored : ℕ) where
   record LeftRight : Type 0 where
     pub left : ℕ
     pub is-left : Left log m left
     pub sound : Sound (firstPages log left)
-    pub right : RightRecovery (firstPages log left) excess (pages - left) (walkBack pages excess (firstPages log m) m)
+    pub right : RightRecovery (firstPages log left) stored excess (pages - left) (aboveStored stored (walkBack pages excess (firstPages log m) m))
 
   -- no entry is cut: all of them
   all-left : Closed log m → LeftRight
@@ -117,10 +117,10 @@ module _ (log : List ℕ) (s : Sound log) (m : ℕ) (inside : m ≤ pageCount lo
       edge = inl refl;
     };
     sound = sound-front log m inside s closed;
-    right = right-closed log s m inside pages excess closed;
+    right = right-closed log s m inside pages excess stored closed;
   }
 
-  module _ (e : LastStart log s m inside pages excess m) where
+  module _ (e : LastStart log s m inside pages excess stored m) where
     abbrev last : ℕ
     last = e .page
 
@@ -160,27 +160,29 @@ module _ (log : List ℕ) (s : Sound log) (m : ℕ) (inside : m ≤ pageCount lo
             edge = inr (e .start);
           };
           sound = sound-front log last below s before-last;
-          right = rw is (right-closed log s last below pages excess before-last);
+          right = rw is (right-closed log s last below pages excess stored before-last);
         }
 
   left-right : LeftRight
   left-right = ⊎-elim
-      (λ some. let e = last-start log s m inside pages excess some in ⊎-elim (cut-left e) (whole-left e) (side m (afterAt log (e .page))))
+      (λ some. let e = last-start log s m inside pages excess stored some in ⊎-elim (cut-left e) (whole-left e) (side m (afterAt log (e .page))))
       (λ z. all-left (λ p h l. absurd (omega arith)))
       (side 0 m)
 
 -- ---- THEOREM: a sound log that is cut at any byte: some first bytes of it, and anything after them
 
-pub cut-right : (kept more rest : List ℕ) → Sound (kept ++ more) → Fits (kept ++ rest) (length kept) → RightCut (kept ++ more) (length kept) (recoverOf (kept ++ rest) (length kept))
-cut-right kept more rest s f =
+pub cut-right : (kept more rest : List ℕ) → Sound (kept ++ more) → Fits (kept ++ rest) (length kept) → (stored : ℕ)
+    → RightCut (kept ++ more) (length kept) stored (recoverOf (kept ++ rest) (length kept) stored)
+cut-right kept more rest s f stored =
     let n = length kept in
     let m = n / pageSize in
     let inside : m ≤ pageCount (kept ++ more) = omega (arith, length-append kept more) in
     let front = firstPages (kept ++ more) m in
     let same : take (m * pageSize) (kept ++ rest) ≡ front = take-append-le (m * pageSize) kept rest (omega arith) ∙ sym (take-append-le (m * pageSize) kept more (omega arith)) in
-    let e = left-right (kept ++ more) s m inside m (excessOf n) in
+    let e = left-right (kept ++ more) s m inside m (excessOf n) stored in
     let size : m * pageSize ≡ length (take (m * pageSize) (kept ++ rest)) = rw same (sym (length-first (kept ++ more) m inside)) in
-    let is : recoverLog front (excessOf n) ≡ recoverOf (kept ++ rest) n = rw same at (recover-cut (kept ++ rest) n (not-too-long (kept ++ rest) n f) (m * pageSize) size (omega arith)) in
+    let is : aboveStored stored (recoverLog front (excessOf n)) ≡ recoverOf (kept ++ rest) n stored =
+    rw same at (recover-cut (kept ++ rest) n stored (not-too-long (kept ++ rest) n f) (m * pageSize) size (omega arith)) in
     record {
       left = e .left;
       is-left = e .is-left;
@@ -188,8 +190,9 @@ cut-right kept more rest s f =
       right = rw (← is, from-last front (excessOf n), count-first (kept ++ more) m inside) (e .right);
     }
 
-pub cut-at-byte : (log : List ℕ) → Sound log → (n : ℕ) → n ≤ length log → (rest : List ℕ) → Fits (take n log ++ rest) n → RightCut log n (recoverOf (take n log ++ rest) n)
-cut-at-byte log s n l rest f =
+pub cut-at-byte : (log : List ℕ) → Sound log → (n : ℕ) → n ≤ length log → (rest : List ℕ) → Fits (take n log ++ rest) n → (stored : ℕ)
+    → RightCut log n stored (recoverOf (take n log ++ rest) n stored)
+cut-at-byte log s n l rest f stored =
     let size = length-take-le n log l in
     let whole = take-append-drop n log in
-    rw (whole, size) at (cut-right (take n log) (drop n log) rest (rw whole s) (rw size f))
+    rw (whole, size) at (cut-right (take n log) (drop n log) rest (rw whole s) (rw size f) stored)

@@ -14,7 +14,7 @@ use Rattle.page.proofs.Paging.{page-from}
 use Rattle.page.proofs.Reading.{mark-same, entry-same}
 use Rattle.page.proofs.Starting.{is-cut}
 use Rattle.log.specs.Bounds.{Fits}
-use Rattle.log.specs.Recovery.{atWhole, firstPages, walkBack, excessOf, wholePages, recoverOf}
+use Rattle.log.specs.Recovery.{atWhole, firstPages, walkBack, excessOf, wholePages, aboveStored, recoverOf}
 use Rattle.log.proofs.Laws.Bounds.{not-too-long, length-log}
 use Rattle.log.proofs.Laws.Recovery.Steps.{back-later, back-bad, back-short, back-cut, back-whole, length-first, count-first, first-first, page-first, all-pages, from-last, recover-cut}
 use Rattle.demands.specs.Sound.{Start, Sound}
@@ -100,9 +100,9 @@ module _ (log other : List ℕ) (s : ℕ) (a : Apart log s) (size : length log �
 
 -- ---- THEOREM: stores that agree from the start of such an entry on, up to the length that is recovered, recover alike
 
-pub recover-alike : (store other : List ℕ) (n s : ℕ) → Fits store n → Fits other n → Apart (wholePages store n) s
-    → drop (s * pageSize) (wholePages store n) ≡ drop (s * pageSize) (wholePages other n) → recoverOf store n ≡ recoverOf other n
-recover-alike store other n s f g apart same =
+pub recover-alike : (store other : List ℕ) (n stored s : ℕ) → Fits store n → Fits other n → Apart (wholePages store n) s
+    → drop (s * pageSize) (wholePages store n) ≡ drop (s * pageSize) (wholePages other n) → recoverOf store n stored ≡ recoverOf other n stored
+recover-alike store other n stored s f g apart same =
     let w = n - excessOf n in
     let log = wholePages store n in
     let a = length-log store w (omega (arith, f .inside)) in
@@ -112,12 +112,14 @@ recover-alike store other n s f g apart same =
     let alike = walk-alike log (wholePages other n) s apart (a ∙ sym b) same m (excessOf n) m m (omega arith) (omega arith) (apart .start .inside) (apart .within) in
     let whole : length log % pageSize ≡ 0 = omega (arith, a) in
     let whole′ : length (wholePages other n) % pageSize ≡ 0 = omega (arith, b) in
-    sym (recover-cut store n (not-too-long store n f) w (sym a) refl)
-    ∙ from-last log (excessOf n)
+    let walked =
+    from-last log (excessOf n)
     ∙ (rw (all-pages log m refl whole, all-pages (wholePages other n) m (sym e) whole′) at alike)
     ∙ ap (λ (k : ℕ). walkBack k (excessOf n) (wholePages other n) k) (sym e)
-    ∙ sym (from-last (wholePages other n) (excessOf n))
-    ∙ recover-cut other n (not-too-long other n g) w (sym b) refl
+    ∙ sym (from-last (wholePages other n) (excessOf n)) in
+    sym (recover-cut store n stored (not-too-long store n f) w (sym a) refl)
+    ∙ ap (aboveStored stored) walked
+    ∙ recover-cut other n stored (not-too-long other n g) w (sym b) refl
 
 -- of a sound log every entry stands apart
 pub sound-apart : (log : List ℕ) → Sound log → (s : ℕ) → Start log s → Apart log s

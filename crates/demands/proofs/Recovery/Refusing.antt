@@ -12,7 +12,7 @@ use Rattle.page.specs.Entry.{Starting, short, cut, whole, entryAt}
 use Rattle.page.proofs.Marking.{mark-cases}
 use Rattle.log.specs.Bounds.{tooLong}
 use Rattle.log.specs.State.{topId}
-use Rattle.log.specs.Recovery.{Recovering, recovered, refused, atWhole, firstPages, walkBack, excessOf, wholePages, recoverOf}
+use Rattle.log.specs.Recovery.{Recovering, recovered, refused, atWhole, firstPages, walkBack, excessOf, wholePages, aboveStored, recoverOf}
 use Rattle.log.proofs.Laws.Bounds.{fitting, length-log}
 use Rattle.log.proofs.Laws.Recovery.Steps.{whole-used, whole-goes-on, back-later, back-bad, back-short, back-cut, back-whole, back-fresh, back-none, from-last, recover-bad, recover-cut}
 
@@ -44,16 +44,23 @@ module _ (pages excess : ℕ) where
       start m (cut id) h go = rw (back-cut pages excess log p (suc p) refl m id h) (go (firstPages log p))
       start m (whole id len after) h go = rw (back-whole pages excess log p (suc p) refl m id len after h) (whole-not (length log) id (pages - pageCount log))
 
-recover-not : (store : List ℕ) (n : ℕ) → NotSeven (recoverOf store n)
-recover-not store n = ⊎-elim
-    (λ t. rw (← recover-bad store n t) (λ e. omega arith))
+-- a stored ceiling refuses nothing
+above-not : (stored : ℕ) (r : Recovering) → NotSeven r → NotSeven (aboveStored stored r)
+above-not stored (recovered st excess dropped) h = tt
+above-not stored (refused number value) h = h
+
+recover-not : (store : List ℕ) (n stored : ℕ) → NotSeven (recoverOf store n stored)
+recover-not store n stored = ⊎-elim
+    (λ t. rw (← recover-bad store n stored t) (λ e. omega arith))
     (λ t.
     let w = n - excessOf n in
+    let m = pageCount (wholePages store n) in
     let size = length-log store w (omega (arith, fitting store n t .inside)) in
-    rw (← recover-cut store n t w (sym size) refl, from-last (wholePages store n) (excessOf n)) (walk-not (pageCount (wholePages store n)) (excessOf n) (pageCount (wholePages store n)) (wholePages store n)))
+    rw (← recover-cut store n stored t w (sym size) refl, from-last (wholePages store n) (excessOf n))
+    (above-not stored (walkBack m (excessOf n) (wholePages store n) m) (walk-not m (excessOf n) m (wholePages store n))))
     (which (tooLong store n))
 
 -- ---- THEOREM: on any bytes
 
-pub recover-never-seven : (store : List ℕ) (n value : ℕ) → recoverOf store n ≡ refused 7 value → ⊥
-recover-never-seven store n value e = (rw e at (recover-not store n)) refl
+pub recover-never-seven : (store : List ℕ) (n stored value : ℕ) → recoverOf store n stored ≡ refused 7 value → ⊥
+recover-never-seven store n stored value e = (rw e at (recover-not store n stored)) refl

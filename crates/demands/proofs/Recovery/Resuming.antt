@@ -1,5 +1,5 @@
 -- What recovery gives where the whole pages are a sound log, and the state that a log is gone on with. Assumes nothing.
-use Prim.Native.Nat.{ℕ, _+_, _-_, _%_}
+use Prim.Native.Nat.{ℕ, _+_, _-_, _%_, max}
 use mathlib.Core.Path.{_≡_, refl, sym}
 use mathlib.Core.Bool.{true}
 use mathlib.Core.Logic.{⊎-elim}
@@ -10,7 +10,7 @@ use Rattle.refusal.proofs.Cases.{which}
 use Rattle.page.specs.Size.{pageSize, pageCount}
 use Rattle.page.specs.Entry.{idAt}
 use Rattle.log.specs.Bounds.{Fits, tooLong}
-use Rattle.log.specs.State.{fresh, recoveredAt}
+use Rattle.log.specs.State.{fresh, recoveredAt, resumedAbove}
 use Rattle.log.specs.Recovery.{Recovering, recovered, refused, excessOf, wholePages, recoverOf}
 use Rattle.log.specs.declared.state.State.{State}
 use Rattle.log.proofs.Laws.Bounds.{fitting, not-too-long, length-log}
@@ -25,40 +25,44 @@ no-excess store n w = let e : n - excessOf n ≡ n = omega arith in rw e
 
 -- ---- THEOREM: recovery of any length, where the log that is left after the excess was cut off is sound
 
-pub recover-right : (store : List ℕ) (n : ℕ) → Fits store n → Sound (wholePages store n) → RightRecovery (wholePages store n) (excessOf n) 0 (recoverOf store n)
-recover-right store n f s =
+pub recover-right : (store : List ℕ) (n stored : ℕ) → Fits store n → Sound (wholePages store n) → RightRecovery (wholePages store n) stored (excessOf n) 0 (recoverOf store n stored)
+recover-right store n stored f s =
     let log = wholePages store n in
     let m = pageCount log in
     let size = length-log store (n - excessOf n) (omega (arith, f .inside)) in
     let none : m - m ≡ 0 = omega arith in
-    rw (← recover-cut store n (not-too-long store n f) (n - excessOf n) (sym size) refl, from-last log (excessOf n))
-    (rw (all-pages log m refl (s .pages), none) at (right-closed log s m (omega arith) m (excessOf n) (λ p h l. s .within p h)))
+    rw (← recover-cut store n stored (not-too-long store n f) (n - excessOf n) (sym size) refl, from-last log (excessOf n))
+    (rw (all-pages log m refl (s .pages), none) at (right-closed log s m (omega arith) m (excessOf n) stored (λ p h l. s .within p h)))
 
 -- a recovery that is not refused had a store and a length in bounds
-pub recovered-fits : (store : List ℕ) (n : ℕ) (st : State) (excess dropped : ℕ) → recoverOf store n ≡ recovered st excess dropped → Fits store n
-recovered-fits store n st excess dropped e = ⊎-elim refused-one (fitting store n) (which (tooLong store n))
+pub recovered-fits : (store : List ℕ) (n stored : ℕ) (st : State) (excess dropped : ℕ) → recoverOf store n stored ≡ recovered st excess dropped → Fits store n
+recovered-fits store n stored st excess dropped e = ⊎-elim refused-one (fitting store n) (which (tooLong store n))
   where
     refused-one : tooLong store n ≡ true → Fits store n
     refused-one t =
-        let bad = recover-bad store n t in
+        let bad = recover-bad store n stored t in
         absurd (let z : _≡_ {A = ℕ} 0 1 = cc in omega arith)
 
--- a state that goes on with a log: its length, its last stored id, and one more
-pub record Resumed (log : List ℕ) (st : State) : Type 0 where
+-- a state that goes on with a log: its length, its last stored id, and one more, or the stored ceiling
+pub record Resumed (log : List ℕ) (stored : ℕ) (st : State) : Type 0 where
   pub size : st .length ≡ length log
   pub last : LastStored log (st .last)
-  pub next : st .next ≡ st .last + 1
+  pub next : st .next ≡ max (st .last + 1) stored
+  pub ceiling : st .ceiling ≡ st .next
 
 -- what holds of 9, and of each such state, holds of a recovery
-pub by-recovery : {log : List ℕ} {excess dropped : ℕ} (P : Recovering → Type 0) → P (refused 9 0) → ((st : State) → Resumed log st → P (recovered st excess dropped))
-    → (r : Recovering) → RightRecovery log excess dropped r → P r
-by-recovery P nine on r (empty z) = on fresh (record { size = sym z; last = nothing-stored (λ p h. omega (arith, h .inside)) refl; next = refl })
+pub by-recovery : {log : List ℕ} {stored excess dropped : ℕ} (P : Recovering → Type 0) → P (refused 9 0) → ((st : State) → Resumed log stored st → P (recovered st excess dropped))
+    → (r : Recovering) → RightRecovery log stored excess dropped r → P r
+by-recovery {stored} P nine on r (empty z) =
+    on (resumedAbove stored fresh) (record { size = sym z; last = nothing-stored (λ p h. omega (arith, h .inside)) refl; next = refl; ceiling = refl })
 by-recovery P nine on r (used-up p l u) = nine
-by-recovery {log} P nine on r (goes-on p l u) = on (recoveredAt (length log) (idAt log p)) (record { size = refl; last = last-entry p l refl; next = refl })
+by-recovery {log} {stored} P nine on r (goes-on p l u) =
+    on (resumedAbove stored (recoveredAt (length log) (idAt log p))) (record { size = refl; last = last-entry p l refl; next = refl; ceiling = refl })
 
-pub recovered-resumes : (store : List ℕ) (n : ℕ) (st : State) (excess dropped : ℕ) → Sound (wholePages store n) → recoverOf store n ≡ recovered st excess dropped → Resumed (wholePages store n) st
-recovered-resumes store n st excess dropped s e =
-    by-recovery (λ r. r ≡ recovered st excess dropped → Resumed (wholePages store n) st)
+pub recovered-resumes : (store : List ℕ) (n stored : ℕ) (st : State) (excess dropped : ℕ) → Sound (wholePages store n) → recoverOf store n stored ≡ recovered st excess dropped
+    → Resumed (wholePages store n) stored st
+recovered-resumes store n stored st excess dropped s e =
+    by-recovery (λ r. r ≡ recovered st excess dropped → Resumed (wholePages store n) stored st)
     (λ f. absurd (let z : _≡_ {A = ℕ} 0 1 = cc in omega arith))
     (λ st′ h f. let g : st ≡ st′ = cc in rw g h)
-    (recoverOf store n) (recover-right store n (recovered-fits store n st excess dropped e) s) e
+    (recoverOf store n stored) (recover-right store n stored (recovered-fits store n stored st excess dropped e) s) e

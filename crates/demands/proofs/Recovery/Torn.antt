@@ -12,8 +12,8 @@ use Rattle.page.specs.Entry.{idAt}
 use Rattle.page.proofs.Growing.{id-kept}
 use Rattle.page.proofs.Starting.{after-start}
 use Rattle.log.specs.Bounds.{Fits}
-use Rattle.log.specs.State.{fresh}
-use Rattle.log.specs.Recovery.{Recovering, recovered, atWhole, firstPages, excessOf, recoverOf}
+use Rattle.log.specs.State.{fresh, recoveredAt, resumedAbove}
+use Rattle.log.specs.Recovery.{Recovering, recovered, atWhole, firstPages, excessOf, aboveStored, recoverOf}
 use Rattle.log.proofs.Laws.Recovery.Steps.{whole-used, whole-goes-on}
 use Rattle.demands.specs.Sound.{Start, Sound, SoundStore, LastStored, nothing-stored, last-entry}
 use Rattle.demands.specs.Push.{batchPages, logAfter, Push, outcome, Counted, beginsAt, endsAt, logWith, lastOf, Ready}
@@ -27,16 +27,18 @@ use Rattle.demands.proofs.Recovery.Cutting.{cut-at-byte}
 
 -- ---- a right recovery, by the id of the last entry stored
 
-pub right-by-last : (log : List ℕ) (excess dropped b : ℕ) → LastStored log b → (r : Recovering) → RightRecovery log excess dropped r → r ≡ atWhole (length log) b excess dropped
-right-by-last log excess dropped b l r (empty z) = none l
+pub right-by-last : (log : List ℕ) (stored excess dropped b : ℕ) → LastStored log b → (r : Recovering) → RightRecovery log stored excess dropped r
+    → r ≡ aboveStored stored (atWhole (length log) b excess dropped)
+right-by-last log stored excess dropped b l r (empty z) = none l
   where
-    none : LastStored log b → recovered fresh excess dropped ≡ atWhole (length log) b excess dropped
-    none (nothing-stored no-start e) = whole-goes-on (length log) b excess dropped (λ u. omega arith) fresh (rw (z, e))
+    none : LastStored log b → recovered (resumedAbove stored fresh) excess dropped ≡ aboveStored stored (atWhole (length log) b excess dropped)
+    none (nothing-stored no-start e) = ap (aboveStored stored) (whole-goes-on (length log) b excess dropped (λ u. omega arith) fresh (rw (z, e)))
     none (last-entry p k e) = absurd (omega (arith, k .start .inside))
-right-by-last log excess dropped b l r (used-up p k u) = whole-used (length log) b excess dropped (last-stored-unique log b (idAt log p) l (last-entry p k refl) ∙ u)
-right-by-last log excess dropped b l r (goes-on p k u) =
+right-by-last log stored excess dropped b l r (used-up p k u) =
+    ap (aboveStored stored) (whole-used (length log) b excess dropped (last-stored-unique log b (idAt log p) l (last-entry p k refl) ∙ u))
+right-by-last log stored excess dropped b l r (goes-on p k u) =
     let e = last-stored-unique log b (idAt log p) l (last-entry p k refl) in
-    whole-goes-on (length log) b excess dropped (λ v. u (sym e ∙ v)) _ (rw e)
+    ap (aboveStored stored) (whole-goes-on (length log) b excess dropped (λ v. u (sym e ∙ v)) (recoveredAt (length log) (idAt log p)) (rw e))
 
 -- ---- which entries lie before the cut
 
@@ -100,7 +102,7 @@ module _ (q : Push) (words : Words (q .ids)) (good : SoundStore (q .store) (q .s
       })
       (sym (id-kept (logWith q (suc j)) x (place j) (mine .inside)) ∙ rw (b .is) at (entry-id q words ready j l))
 
-  module _ (n : ℕ) (from : q .state .length ≤ n) (to : n ≤ outcome q .answer .state .length) (rest : List ℕ) (f : Fits (take n (outcome q .store) ++ rest) n) where
+  module _ (n : ℕ) (from : q .state .length ≤ n) (to : n ≤ outcome q .answer .state .length) (rest : List ℕ) (f : Fits (take n (outcome q .store) ++ rest) n) (stored : ℕ) where
     abbrev store : List ℕ
     store = take n (outcome q .store) ++ rest
 
@@ -114,8 +116,8 @@ module _ (q : Push) (words : Words (q .ids)) (good : SoundStore (q .store) (q .s
     kept-log : take n log ≡ take n (outcome q .store)
     kept-log = take-take n (outcome q .answer .state .length) (outcome q .store) to
 
-    right : RightCut log n (recoverOf store n)
-    right = rw kept-log at (cut-at-byte log sound n (omega (arith, size-log)) rest (rw kept-log f))
+    right : RightCut log n stored (recoverOf store n stored)
+    right = rw kept-log at (cut-at-byte log sound n (omega (arith, size-log)) rest (rw kept-log f) stored)
 
     abbrev left : ℕ
     left = right .left
@@ -181,7 +183,7 @@ module _ (q : Push) (words : Words (q .ids)) (good : SoundStore (q .store) (q .s
         ∙ ap (take (left * pageSize)) (sym kept-log)
         ∙ take-take (left * pageSize) n log (omega (arith, right .is-left .most))
 
-    pub torn : Torn q n store (recoverOf store n)
+    pub torn : Torn q n stored store (recoverOf store n stored)
     torn = record {
       kept = k;
       counted = fit .most;
@@ -191,5 +193,5 @@ module _ (q : Push) (words : Words (q .ids)) (good : SoundStore (q .store) (q .s
       last = last-with k (fit .most);
       dropped = m - left;
       adds-up = rw size-with (omega (arith, left-is, right .is-left .most));
-      is = right-by-last (logWith q k) (excessOf n) (m - left) (lastOf (q .state) (q .ids) k) (last-with k (fit .most)) (recoverOf store n) (rw log-left at (right .right));
+      is = right-by-last (logWith q k) stored (excessOf n) (m - left) (lastOf (q .state) (q .ids) k) (last-with k (fit .most)) (recoverOf store n stored) (rw log-left at (right .right));
     }

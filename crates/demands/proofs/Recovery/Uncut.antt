@@ -15,7 +15,7 @@ use Rattle.page.specs.Entry.{Starting, short, cut, whole, entryAt}
 use Rattle.page.proofs.Marking.{mark-cases, by-start, by-later, by-bad}
 use Rattle.log.specs.Bounds.{tooLong}
 use Rattle.log.specs.State.{fresh}
-use Rattle.log.specs.Recovery.{Recovering, recovered, refused, atWhole, walkBack, excessOf, wholePages, recoverLog, recoverOf}
+use Rattle.log.specs.Recovery.{Recovering, recovered, refused, atWhole, walkBack, excessOf, wholePages, aboveStored, recoverLog, recoverOf}
 use Rattle.log.proofs.Laws.Recovery.Steps.{back-later, back-bad, back-short, back-whole}
 use Rattle.demands.specs.Recovery.{strictAt, strictBack, strictOf}
 
@@ -62,12 +62,12 @@ module _ (log : List ℕ) (excess : ℕ) where
 
 -- ---- THEOREM: on any bytes
 
-pub uncut-same : (store : List ℕ) (n : ℕ) → ((s : ℕ) → strictOf store n ≡ refused 7 s → ⊥) → recoverOf store n ≡ strictOf store n
+pub uncut-same : (store : List ℕ) (n stored : ℕ) → ((s : ℕ) → strictOf store n stored ≡ refused 7 s → ⊥) → recoverOf store n stored ≡ strictOf store n stored
 unfolding recoverOf recoverLog strictOf
-uncut-same store n uncut = go (tooLong store n) uncut
+uncut-same store n stored uncut = go (tooLong store n) uncut
   where
-    go : (t : Bool) → ((s : ℕ) → pick t (refused 1 0) (strictBack (excessOf n) (wholePages store n) (pageCount (wholePages store n))) ≡ refused 7 s → ⊥)
-        → pick t (refused 1 0) (walkBack (pageCount (wholePages store n)) (excessOf n) (wholePages store n) (pageCount (wholePages store n)))
-        ≡ pick t (refused 1 0) (strictBack (excessOf n) (wholePages store n) (pageCount (wholePages store n)))
+    go : (t : Bool) → ((s : ℕ) → pick t (refused 1 0) (aboveStored stored (strict (wholePages store n) (excessOf n) (pageCount (wholePages store n)))) ≡ refused 7 s → ⊥)
+        → pick t (refused 1 0) (aboveStored stored (walk (wholePages store n) (excessOf n) (pageCount (wholePages store n))))
+        ≡ pick t (refused 1 0) (aboveStored stored (strict (wholePages store n) (excessOf n) (pageCount (wholePages store n))))
     go true h = refl
-    go false h = walk-same (wholePages store n) (excessOf n) (pageCount (wholePages store n)) h
+    go false h = ap (aboveStored stored) (walk-same (wholePages store n) (excessOf n) (pageCount (wholePages store n)) (λ s e. h s (ap (aboveStored stored) e)))

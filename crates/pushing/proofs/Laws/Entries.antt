@@ -30,11 +30,11 @@ module _ (st : State) (store : List ℕ) (j : ℕ) where
 
   -- a refusal ends the push: its number, and the state as it stood
   pub ends-with : (number : ℕ) (a : Pushing) (k : ℕ) (st′ : State) → a ≡ pushing (refused k 0) j st′ → k ≡ number
-      → st′ .length ≡ st .length → st′ .last ≡ st .last → st′ .next ≡ st .next
+      → st′ .length ≡ st .length → st′ .last ≡ st .last → st′ .next ≡ st .next → st′ .ceiling ≡ st .ceiling
       → stop (record { answer = a; store = store }) ≡ refuse number j this
-  ends-with number a k st′ e f n l x =
-      let s : stateOf (st′ .length) (st′ .last) (st′ .next) ≡ st = rw (n, l, x) in
-      ap (λ (y : Pushing). stop (record { answer = y; store = store })) (e ∙ rw f (ap (pushing (refused number 0) j) s))
+  ends-with number a k st′ e f n l x y =
+      let s : stateOf (st′ .length) (st′ .last) (st′ .next) (st′ .ceiling) ≡ st = rw (n, l, x, y) in
+      ap (λ (b : Pushing). stop (record { answer = b; store = store })) (e ∙ rw f (ap (pushing (refused number 0) j) s))
 
   -- the bytes of its pages, as the code has them
   module _ (id : ℕ) (d : List ℕ) (above : st .last < id) (small : length d < dataEnd) (k : ℕ) (e : k ≡ bytesFor d) where

@@ -24,7 +24,7 @@ returns : tie.Need-returns
 returns c =
     let a = c .before .before .before .before .before .args in
     let t = turn-order (a .written) (a .id) (a .bytes .now) (point (a .state) (a .store .now)) (omega arith) in
-    ends-with (a .state) (a .store .now) (a .written) 2 _ _ _ (c .refused .ensures) (omega arith) (omega arith) (omega arith) (omega arith) ∙ sym t
+    ends-with (a .state) (a .store .now) (a .written) 2 _ _ _ (c .refused .ensures) (omega arith) (omega arith) (omega arith) (omega arith) (omega arith) ∙ sym t
 
 refused-requires-2 : tie.Need-refused-requires-2
 refused-requires-2 c κs = tt
@@ -33,7 +33,7 @@ returns-2 : tie.Need-returns-2
 returns-2 c =
     let a = c .before .before .before .before .before .before .args in
     let t = turn-large (a .written) (a .id) (a .bytes .now) (point (a .state) (a .store .now)) (omega arith) (omega arith) in
-    ends-with (a .state) (a .store .now) (a .written) 3 _ _ _ (c .refused2 .ensures) (omega arith) (omega arith) (omega arith) (omega arith) ∙ sym t
+    ends-with (a .state) (a .store .now) (a .written) 3 _ _ _ (c .refused2 .ensures) (omega arith) (omega arith) (omega arith) (omega arith) (omega arith) ∙ sym t
 
 refused-requires-3 : tie.Need-refused-requires-3
 refused-requires-3 c κs = tt
@@ -42,7 +42,7 @@ returns-3 : tie.Need-returns-3
 returns-3 c =
     let a = c .before .before .before .before .before .before .before .args in
     let t = turn-full (a .written) (a .id) (a .bytes .now) (point (a .state) (a .store .now)) (omega arith) (omega arith) (omega arith) in
-    ends-with (a .state) (a .store .now) (a .written) 4 _ _ _ (c .refused3 .ensures) (omega arith) (omega arith) (omega arith) (omega arith) ∙ sym t
+    ends-with (a .state) (a .store .now) (a .written) 4 _ _ _ (c .refused3 .ensures) (omega arith) (omega arith) (omega arith) (omega arith) (omega arith) ∙ sym t
 
 sub-write-entry : tie.Need-sub-write-entry
 sub-write-entry c = omega arith

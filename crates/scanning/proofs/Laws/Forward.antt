@@ -7,9 +7,9 @@ use mathlib.Core.List.{List}
 use native.Mathlib.Omega.{arith}
 use borrow.Author.Tests.{lt-ltb, le-ltb}
 use lib.ListN.{length}
-use Rattle.page.specs.Size.{pagesForData, pageCount}
+use Rattle.page.specs.Size.{idSize, pagesForData, pageCount}
 use Rattle.page.specs.Mark.{markAt}
-use Rattle.page.specs.Entry.{Starting, short, cut, whole, idAt, dataLengthAt, entryAt}
+use Rattle.page.specs.Entry.{Starting, short, cut, whole, lengthAt, idAt, dataLengthAt, entryAt}
 use Rattle.page.proofs.Marking.{IsBad, mark-cases, by-start, by-later, by-bad}
 use Rattle.page.proofs.Starting.{IsWhole, is-whole, after-data, after-start}
 use Rattle.log.specs.Round.{Round, stop, again}
@@ -55,6 +55,8 @@ module _ (log : List ℕ) (range : Range) (p : ℕ) where
 
 pub record ReachedEntry (log : List ℕ) (range : Range) (page id len after : ℕ) : Type 0 where
   pub inside : holdsOf range id ≡ true
+  pub marked : markAt log page ≡ 1
+  pub long : idSize ≤ lengthAt log page
   pub id-is : id ≡ idAt log page
   pub len-is : len ≡ dataLengthAt log page
   pub room : page + pagesForData len ≤ pageCount log
@@ -70,12 +72,12 @@ StepSays log range p (stop r) = StepReaches log range r
 StepSays log range p (again q) = p < q
 
 module _ (log : List ℕ) (range : Range) (p : ℕ) where
-  start-says : (x : Starting) → entryAt log p ≡ x → StepSays log range p (stepStart range p x)
+  start-says : markAt log p ≡ 1 → (x : Starting) → entryAt log p ≡ x → StepSays log range p (stepStart range p x)
   unfolding stepStart
-  start-says short e = tt
-  start-says (cut id) e = tt
-  start-says (whole id len after) e = ⊎-elim
-      (λ (h : holdsOf range id ≡ true). rw h (record { inside = h; id-is = w .id-is; len-is = w .len-is; room = room; within = w .within }))
+  start-says m short e = tt
+  start-says m (cut id) e = tt
+  start-says m (whole id len after) e = ⊎-elim
+      (λ (h : holdsOf range id ≡ true). rw h (record { inside = h; marked = m; long = w .long; id-is = w .id-is; len-is = w .len-is; room = room; within = w .within }))
       (λ (h : holdsOf range id ≡ false). rw h (omega (arith, w .after-is, after-start log p)))
       (which (holdsOf range id))
     where
@@ -87,7 +89,7 @@ module _ (log : List ℕ) (range : Range) (p : ℕ) where
 
   step-page-says : StepSays log range p (stepPage log range p)
   step-page-says = ⊎-elim
-      (λ (m : markAt log p ≡ 1). rw (← step-page-start log range p m) (start-says (entryAt log p) refl))
+      (λ (m : markAt log p ≡ 1). rw (← step-page-start log range p m) (start-says m (entryAt log p) refl))
       (⊎-elim
       (λ (m : markAt log p ≡ 0). rw (← step-page-later log range p (p + 1) refl m) (omega arith))
       (λ (m : IsBad (markAt log p)). rw (← step-page-bad log range p p refl m) tt))

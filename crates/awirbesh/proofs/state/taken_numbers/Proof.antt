@@ -21,7 +21,7 @@ returns : tie.Need-returns
 returns c = rw (c .before .before .taken .given .1, c .state-numbers .ensures)
 
 returns-2 : tie.Need-returns-2
-returns-2 c = rw (c .before .before .taken2 .given .1, c .number .ensures) (state-is _ _ _ (omega arith) (omega arith) (omega arith))
+returns-2 c = rw (c .before .before .taken2 .given .1, c .number .ensures) (state-is _ _ _ (omega arith) (omega arith) (omega arith) (omega arith))
 
 pub taken-numbers-spec : {M : Type 1} → statement M
 taken-numbers-spec =

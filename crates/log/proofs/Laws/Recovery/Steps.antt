@@ -15,7 +15,7 @@ use Rattle.page.proofs.Paging.{page-kept}
 use Rattle.page.proofs.Reading.{mark-same}
 use Rattle.log.specs.Bounds.{Fits, tooLong}
 use Rattle.log.specs.State.{fresh, recoveredAt, topId}
-use Rattle.log.specs.Recovery.{recovered, refused, atWhole, atStart, firstPages, walkBack, excessOf, recoverLog, recoverOf}
+use Rattle.log.specs.Recovery.{recovered, refused, atWhole, atStart, firstPages, walkBack, excessOf, aboveStored, recoverLog, recoverOf}
 use Rattle.log.specs.declared.state.State.{State}
 use Rattle.log.proofs.Laws.Bounds.{fitting, length-log}
 
@@ -170,12 +170,12 @@ module _ (log : List ℕ) (excess left q : ℕ) (b : BackLoop log excess left q)
 pub part-length : (store : List ℕ) (n : ℕ) → tooLong store n ≡ false → (w : ℕ) → (Fits store n → w ≤ length store) → w ≡ length (take w store)
 part-length store n t w h = sym (length-log store w (h (fitting store n t)))
 
-module _ (store : List ℕ) (n : ℕ) where
-  pub recover-bad : tooLong store n ≡ true → refused 1 0 ≡ recoverOf store n
+module _ (store : List ℕ) (n stored : ℕ) where
+  pub recover-bad : tooLong store n ≡ true → refused 1 0 ≡ recoverOf store n stored
   unfolding recoverOf
   recover-bad t = rw t
 
   -- the part that is walked, of w bytes, ends where the excess begins
-  pub recover-cut : tooLong store n ≡ false → (w : ℕ) → w ≡ length (take w store) → w ≡ n - excessOf n → recoverLog (take w store) (excessOf n) ≡ recoverOf store n
+  pub recover-cut : tooLong store n ≡ false → (w : ℕ) → w ≡ length (take w store) → w ≡ n - excessOf n → aboveStored stored (recoverLog (take w store) (excessOf n)) ≡ recoverOf store n stored
   unfolding recoverOf
   recover-cut t w size e = rw (t, ← e)

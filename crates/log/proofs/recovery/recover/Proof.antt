@@ -1,6 +1,7 @@
 -- `recover` meets its contract. Assumes nothing.
-use mathlib.Core.Path.{sym, _∙_}
+use mathlib.Core.Path.{sym, ap, _∙_}
 use native.Mathlib.Omega.{arith}
+use Rattle.log.specs.Recovery.{aboveStored}
 use Rattle.log.proofs.Laws.Recovery.Steps.{part-length, recover-bad, recover-cut}
 use Rattle.log.proofs.recovery.recover.Statement.{statement}
 use Rattle.log.proofs.recovery.recover.Tie as tie
@@ -9,7 +10,7 @@ is-too-long-requires : tie.Need-is-too-long-requires
 is-too-long-requires c κs = tt
 
 returns : tie.Need-returns
-returns c = recover-bad _ _ (sym (c .before .is-too-long .ensures) ∙ c .if1 .taken)
+returns c = recover-bad _ _ _ (sym (c .before .is-too-long .ensures) ∙ c .if1 .taken)
 
 sub-walk-back : tie.Need-sub-walk-back
 sub-walk-back c = omega arith
@@ -20,10 +21,14 @@ slice-aggregate-walk-back c = part-length _ _ (sym (c .before .before .is-too-lo
 walk-back-requires : tie.Need-walk-back-requires
 walk-back-requires c κs = omega (arith, slice-aggregate-walk-back c)
 
+above-requires : tie.Need-above-requires
+above-requires c κs = tt
+
 returns-2 : tie.Need-returns-2
 returns-2 c =
-    c .walk-back .ensures
-    ∙ recover-cut _ _ (sym (c .before .before .before .is-too-long .ensures) ∙ c .before .before .if1 .left) _ (slice-aggregate-walk-back (c .before)) (omega arith)
+    c .above .ensures
+    ∙ ap (aboveStored _) (c .before .walk-back .ensures)
+    ∙ recover-cut _ _ _ (sym (c .before .before .before .before .is-too-long .ensures) ∙ c .before .before .before .if1 .left) _ (slice-aggregate-walk-back (c .before .before)) (omega arith)
 
 pub recover-spec : {M : Type 1} → statement M
 recover-spec =
@@ -34,4 +39,5 @@ recover-spec =
     sub-walk-back
     slice-aggregate-walk-back
     walk-back-requires
+    above-requires
     returns-2)
