@@ -5,3 +5,4 @@ pub mod Places
 pub mod Alone
 pub mod Retrying
 pub mod Full
+pub mod Origin

@@ -4,3 +4,4 @@ pub mod Recovery
 pub mod Lookup
 pub mod Scan
 pub mod History
+pub mod Used

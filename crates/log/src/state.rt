@@ -1,4 +1,4 @@
-// The state: how long the log is, the id written last, the id to hand out next, and the ceiling below which ids are handed out.
+// The state: how long the log is, the id written last, the id to hand out next, and the ceiling of those handed out.
 use refusal::Refusal;
 ghost use mathlib.Core.Path.{_≡_};
 ghost use Prim.Native.Nat.{_<_, _+_, _^_};
@@ -31,7 +31,7 @@ const MOST_RAISED: u64 = 0x1_0000_0000;
 fn is_bad_step(ceiling: u64, step: u64) -> bool
     ensures { λ r. ⌜ r ≡ badStep ceiling step ⌝ }
 {
-    if step == 0 {
+    if step < 1 {
         return true;
     }
     if MOST_RAISED < step {

@@ -1,3 +1,4 @@
 pub mod Listed
 pub mod Witnessed
 pub mod Unpromised
+pub mod Used

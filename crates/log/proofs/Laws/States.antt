@@ -37,19 +37,22 @@ module _ (st : State) where
 -- ---- raising the ceiling
 
 module _ (ceiling step : ℕ) where
-  pub step-none : step ≡ 0 → true ≡ badStep ceiling step
+  pub step-none : step < 1 → true ≡ badStep ceiling step
   unfolding badStep
-  step-none z = rw (eq-eqb step 0 z)
+  step-none z = rw (eq-eqb step 0 (omega arith))
 
-  module _ (some : step ≡ 0 → ⊥) where
+  module _ (some : 1 ≤ step) where
+    not-none : eqb step 0 ≡ false
+    not-none = ne-eqb step 0 (λ z. omega arith)
+
     pub step-large : 2 ^ 32 < step → true ≡ badStep ceiling step
     unfolding badStep
-    step-large l = rw (ne-eqb step 0 some, lt-ltb (2 ^ 32) step l)
+    step-large l = rw (not-none, lt-ltb (2 ^ 32) step l)
 
     -- the test of the sum, by what is left above the ceiling
     pub step-sum : step ≤ 2 ^ 32 → (room : ℕ) → room ≡ topId - ceiling → ceiling ≤ topId → ltb room step ≡ badStep ceiling step
     unfolding badStep
-    step-sum l room e most = rw (e, ne-eqb step 0 some, le-ltb (2 ^ 32) step l) (⊎-elim
+    step-sum l room e most = rw (e, not-none, le-ltb (2 ^ 32) step l) (⊎-elim
         (λ a. rw (lt-ltb (topId - ceiling) step (omega arith), lt-ltb topId (ceiling + step) a))
         (λ a. rw (le-ltb (topId - ceiling) step (omega arith), le-ltb topId (ceiling + step) a))
         (side topId (ceiling + step)))
