@@ -1,6 +1,8 @@
-/* Calls each function of awirbesh.h and holds its whole answer to the worked cases of docs/RULES.md 13; pushes
- * secrets, of which nothing may stay in the filling, docs/RULES.md 1.8; pushes entries that were refused again, with
- * the ids that they keep, docs/RULES.md 4.3; and recovers logs whose end is cut, docs/RULES.md 6. */
+/* Calls each function of awirbesh.h and holds its whole answer to the worked cases of docs/RULES.md 13; takes ids and
+ * raises ceilings at their edges, docs/RULES.md 5; restarts with the ceiling that was stored and with others,
+ * docs/RULES.md 11.11 and 12.2; pushes secrets, of which nothing may stay in the filling, docs/RULES.md 1.8; pushes
+ * entries that were refused again, with the ids that they keep, docs/RULES.md 4.3; and recovers logs whose end is cut,
+ * docs/RULES.md 6. */
 #include "awirbesh.h"
 
 #include <stdio.h>
@@ -18,11 +20,13 @@ static void same(const char *what, uint64_t got, uint64_t expected)
     }
 }
 
-static void same_state(const char *what, awirbesh_state s, uint64_t length, uint64_t last, uint64_t next)
+static void same_state(const char *what, awirbesh_state s, uint64_t length, uint64_t last, uint64_t next,
+                       uint64_t ceiling)
 {
     same(what, s.length, length);
     same(what, s.last, last);
     same(what, s.next, next);
+    same(what, s.ceiling, ceiling);
 }
 
 static void same_bytes(const char *what, const uint8_t *got, const uint8_t *expected, size_t length)
@@ -38,18 +42,214 @@ static void same_bytes(const char *what, const uint8_t *got, const uint8_t *expe
 
 static const awirbesh_range ALL = {{AWIRBESH_OPEN, 0}, {AWIRBESH_OPEN, 0}};
 
-static void states(void)
+/* ---- ids: taking, raising, and a restart ---- */
+
+typedef struct {
+    const char *what;
+    awirbesh_state before;
+    awirbesh_taken expected;
+} take;
+
+/* Numbers that a take does not look at are made up. */
+static const take takes[] = {
+    {"13.10, the first", {0, 0, 1, 3}, {0, 1, {0, 0, 2, 3}}},
+    {"13.10, the second", {0, 0, 2, 3}, {0, 2, {0, 0, 3, 3}}},
+    {"13.10, the third", {0, 0, 3, 3}, {30, 0, {0, 0, 3, 3}}},
+    {"the fresh state", {0, 0, 1, 1}, {30, 0, {0, 0, 1, 1}}},
+    {"id 0", {7, 9, 0, 1}, {0, 0, {7, 9, 1, 1}}},
+    {"no ceiling", {7, 9, 0, 0}, {30, 0, {7, 9, 0, 0}}},
+    {"a ceiling of 0", {7, 9, 5, 0}, {30, 0, {7, 9, 5, 0}}},
+    {"the last below the ceiling", {UINT64_MAX, UINT64_MAX, 99, 100}, {0, 99, {UINT64_MAX, UINT64_MAX, 100, 100}}},
+    {"the ceiling", {1, 2, 100, 100}, {30, 0, {1, 2, 100, 100}}},
+    {"above the ceiling", {1, 2, 101, 100}, {30, 0, {1, 2, 101, 100}}},
+    {"far below the ceiling", {1, 2, 3, UINT64_MAX}, {0, 3, {1, 2, 4, UINT64_MAX}}},
+    {"far above the ceiling", {1, 2, UINT64_MAX - 1, 1}, {30, 0, {1, 2, UINT64_MAX - 1, 1}}},
+    {"the last id but one", {1, 2, UINT64_MAX - 1, UINT64_MAX}, {0, UINT64_MAX - 1, {1, 2, UINT64_MAX, UINT64_MAX}}},
+    {"it, at the ceiling", {1, 2, UINT64_MAX - 1, UINT64_MAX - 1}, {30, 0, {1, 2, UINT64_MAX - 1, UINT64_MAX - 1}}},
+    /* 9 comes before 30 */
+    {"the last id", {0, 5, UINT64_MAX, UINT64_MAX}, {9, 0, {0, 5, UINT64_MAX, UINT64_MAX}}},
+    {"the last id above the ceiling", {0, 5, UINT64_MAX, UINT64_MAX - 1}, {9, 0, {0, 5, UINT64_MAX, UINT64_MAX - 1}}},
+    {"the last id, ceiling 1", {0, 5, UINT64_MAX, 1}, {9, 0, {0, 5, UINT64_MAX, 1}}},
+    {"the last id, ceiling 0", {0, 5, UINT64_MAX, 0}, {9, 0, {0, 5, UINT64_MAX, 0}}},
+};
+
+static void ids_are_taken(void)
 {
-    same_state("fresh", awirbesh_fresh(), 0, 0, 1);
-    awirbesh_taken t = awirbesh_take(awirbesh_fresh());
-    same("take number", t.number, AWIRBESH_OK);
-    same("take id", t.id, 1);
-    same_state("take", t.state, 0, 0, 2);
-    awirbesh_state end = {0, 5, UINT64_MAX};
-    t = awirbesh_take(end);
-    same("take at the end", t.number, AWIRBESH_IDS_USED_UP);
-    same("take at the end, id", t.id, 0);
-    same_state("take at the end", t.state, 0, 5, UINT64_MAX);
+    same_state("fresh", awirbesh_fresh(), 0, 0, 1, 1);
+    for (size_t i = 0; i < sizeof takes / sizeof *takes; i++) {
+        const take *t = &takes[i];
+        awirbesh_state after = t->expected.state;
+        awirbesh_taken got = awirbesh_take(t->before);
+        same(t->what, got.number, t->expected.number);
+        same(t->what, got.id, t->expected.id);
+        same_state(t->what, got.state, after.length, after.last, after.next, after.ceiling);
+    }
+}
+
+#define LONGEST_STEP ((uint64_t)1 << 32)
+
+/* Each step by each ceiling, the other numbers being made up: refused by the sum or by the step itself, or added. */
+static void ceilings_are_raised(void)
+{
+    static const struct {
+        uint64_t step;
+        int allowed;
+    } steps[] = {
+        {0, 0},
+        {1, 1},
+        {2, 1},
+        {1024, 1},
+        {LONGEST_STEP - 1, 1},
+        {LONGEST_STEP, 1},
+        {LONGEST_STEP + 1, 0},
+        {2 * LONGEST_STEP, 0},
+        {(uint64_t)1 << 63, 0},
+        {UINT64_MAX - 1, 0},
+        {UINT64_MAX, 0},
+    };
+    for (size_t i = 0; i < sizeof steps / sizeof *steps; i++) {
+        uint64_t step = steps[i].step;
+        /* the last four are those at which the sum is 2^64-3, 2^64-2, 2^64-1 and 2^64 */
+        const uint64_t ceilings[] = {0, 1, 6, LONGEST_STEP, UINT64_MAX - 2 - step, UINT64_MAX - 1 - step,
+                                     UINT64_MAX - step, UINT64_MAX - step + 1};
+        for (size_t j = 0; j < sizeof ceilings / sizeof *ceilings; j++) {
+            uint64_t ceiling = ceilings[j], sum = ceiling + step;
+            int raised = steps[i].allowed && sum > ceiling;
+            /* next is at the ceiling, above it or below it; length and last are of no log */
+            const uint64_t nexts[] = {ceiling, ceiling + 1, ceiling - 1, 0, UINT64_MAX};
+            for (size_t k = 0; k < sizeof nexts / sizeof *nexts; k++) {
+                awirbesh_state before = {UINT64_MAX - k, 3 * j, nexts[k], ceiling};
+                awirbesh_raised got = awirbesh_raise(before, step);
+                same("raise", got.number, raised ? AWIRBESH_OK : AWIRBESH_BAD_RAISE);
+                same_state("raise", got.state, UINT64_MAX - k, 3 * j, nexts[k], raised ? sum : ceiling);
+            }
+        }
+    }
+}
+
+static awirbesh_state raise_by(const char *what, awirbesh_state state, uint64_t step)
+{
+    awirbesh_raised r = awirbesh_raise(state, step);
+    same(what, r.number, AWIRBESH_OK);
+    same_state(what, r.state, state.length, state.last, state.next, state.ceiling + step);
+    return r.state;
+}
+
+static awirbesh_state take_id(const char *what, awirbesh_state state, uint64_t id)
+{
+    awirbesh_taken t = awirbesh_take(state);
+    same(what, t.number, AWIRBESH_OK);
+    same(what, t.id, id);
+    same_state(what, t.state, state.length, state.last, id + 1, state.ceiling);
+    return t.state;
+}
+
+/* Pushes one entry whose data is a word. */
+static awirbesh_state push_word(const char *what, uint8_t *store, awirbesh_state state, uint64_t id, const char *word)
+{
+    const uint64_t end = strlen(word);
+    awirbesh_pushed p = awirbesh_push(store, 4096, state, &id, 1, &end, 1, (const uint8_t *)word, end);
+    same(what, p.number, AWIRBESH_OK);
+    same(what, p.written, 1);
+    same_state(what, p.state, state.length + 1024, id, state.next, state.ceiling);
+    return p.state;
+}
+
+static awirbesh_state restart(const char *what, const uint8_t *store, uint64_t length, uint64_t stored)
+{
+    awirbesh_recovered r = awirbesh_recover(store, 4096, length, stored);
+    same(what, r.number, AWIRBESH_OK);
+    same(what, r.state.ceiling, r.state.next);
+    return r.state;
+}
+
+/* The word that a lookup of an id hands over; none if it is absent. */
+static void is_word(const char *what, const uint8_t *store, awirbesh_state state, uint64_t id, const char *word)
+{
+    uint8_t out[16] = {0};
+    awirbesh_look l = awirbesh_lookup(store, 4096, state, id, out, sizeof out);
+    same(what, l.number, AWIRBESH_OK);
+    same(what, l.found, word != 0);
+    same(what, l.length, word ? strlen(word) : 0);
+    same(what, (uint64_t)memcmp(out, word ? word : "", l.length), 0);
+}
+
+/* Ids 1 and 2 are handed out under the ceiling 3, which is stored. 1 is pushed, and 2 is dropped. */
+static awirbesh_state one_pushed_one_dropped(uint8_t *store)
+{
+    awirbesh_state state = raise_by("raised by 2", awirbesh_fresh(), 2);
+    state = take_id("the first id", state, 1);
+    state = take_id("the second id", state, 2);
+    awirbesh_taken t = awirbesh_take(state);
+    same("no third id", t.number, AWIRBESH_CEILING_REACHED);
+    same("no third id", t.id, 0);
+    same_state("no third id", t.state, 0, 0, 3, 3);
+    return push_word("the first id", store, t.state, 1, "hello");
+}
+
+/* Rule 13.10: after a restart with the ceiling that was stored the next id is new, and 2 is absent for good. */
+static void a_dropped_id_stays_dropped(void)
+{
+    static uint8_t store[4096];
+    awirbesh_state before = one_pushed_one_dropped(store);
+    awirbesh_state state = restart("restart", store, before.length, before.ceiling);
+    same_state("restart", state, 1024, 1, 3, 3);
+    same_state("restart again", restart("restart again", store, 1024, state.ceiling), 1024, 1, 3, 3);
+    same("an id before the ceiling is raised", awirbesh_take(state).number, AWIRBESH_CEILING_REACHED);
+    state = take_id("a new id", raise_by("raised by 1", state, 1), 3);
+    is_word("a dropped id", store, state, 2, 0);
+    same("a dropped id, position", awirbesh_find(store, 4096, state, 2).position, 1024);
+    state = push_word("a new id", store, state, 3, "real");
+    is_word("a pushed id", store, state, 1, "hello");
+    is_word("a dropped id, later", store, state, 2, 0);
+    is_word("a new id", store, state, 3, "real");
+}
+
+/* Rule 12.2: a restart with 0, or with the ceiling from before the raise, hands the dropped id out again; pushed by
+ * whoever has it now, it is found by whoever dropped it. */
+static void with_an_older_ceiling(void)
+{
+    static uint8_t store[4096];
+    const uint64_t older[] = {0, 1, 2};
+    for (size_t i = 0; i < sizeof older / sizeof *older; i++) {
+        awirbesh_state state = restart("older ceiling", store, one_pushed_one_dropped(store).length, older[i]);
+        same_state("older ceiling", state, 1024, 1, 2, 2);
+        is_word("before it comes again", store, state, 2, 0);
+        state = take_id("a used id", raise_by("older ceiling", state, 1), 2);
+        is_word("a dropped id", store, push_word("a used id", store, state, 2, "real"), 2, "real");
+    }
+}
+
+/* Rule 12.2: id 2 is pushed before it is handed out, so that it is found as soon as it is. */
+static void with_an_id_that_was_not_handed_out(void)
+{
+    static uint8_t store[4096];
+    awirbesh_state state = take_id("the first id", raise_by("raised", awirbesh_fresh(), 4), 1);
+    state = push_word("not handed out", store, state, 2, "early");
+    is_word("not handed out yet", store, state, 2, 0);
+    state = take_id("it is handed out", state, 2);
+    is_word("it is handed out", store, state, 2, "early");
+}
+
+/* Rule 12.2: a crash cuts the entry of id 1 off, and after the restart it is pushed with other data. */
+static void with_an_id_pushed_twice_across_a_cut(void)
+{
+    static uint8_t store[4096];
+    awirbesh_state state = one_pushed_one_dropped(store);
+    is_word("pushed once", store, state, 1, "hello");
+    state = restart("cut", store, 1000, state.ceiling);
+    same_state("cut", state, 0, 0, 3, 3);
+    is_word("cut off", store, state, 1, 0);
+    state = push_word("pushed twice", store, state, 1, "other");
+    is_word("pushed twice", store, state, 1, "other");
+}
+
+static void used_ids_stay_used(void)
+{
+    a_dropped_id_stays_dropped();
+    with_an_older_ceiling();
+    with_an_id_that_was_not_handed_out();
+    with_an_id_pushed_twice_across_a_cut();
 }
 
 /* (1, "hello") then (2, none), byte by byte. */
@@ -66,7 +266,7 @@ static void two_entries(void)
                                       (const uint8_t *)"hello", 5);
     same("push number", p.number, AWIRBESH_OK);
     same("push written", p.written, 2);
-    same_state("push", p.state, 2048, 2, 1);
+    same_state("push", p.state, 2048, 2, 1, 1);
     same_bytes("push", store, expected, sizeof store);
 
     awirbesh_look l = awirbesh_lookup(store, sizeof store, p.state, 1, out, sizeof out);
@@ -99,16 +299,16 @@ static void two_entries(void)
     same("check of an excess", c.number, AWIRBESH_CUT_ENTRY);
     same("check of an excess, page", c.value, 2);
 
-    awirbesh_recovered r = awirbesh_recover(store, sizeof store, 1030);
+    awirbesh_recovered r = awirbesh_recover(store, sizeof store, 1030, 0);
     same("recover number", r.number, AWIRBESH_OK);
     same("recover value", r.value, 0);
     same("recover excess", r.excess, 6);
     same("recover dropped", r.dropped, 0);
-    same_state("recover", r.state, 1024, 1, 2);
-    r = awirbesh_recover(store, sizeof store, 3072);
+    same_state("recover", r.state, 1024, 1, 2, 2);
+    r = awirbesh_recover(store, sizeof store, 3072, 0);
     same("recover a bad mark", r.number, AWIRBESH_BAD_MARK);
     same("recover a bad mark, page", r.value, 2);
-    same_state("recover a bad mark", r.state, 0, 0, 0);
+    same_state("recover a bad mark", r.state, 0, 0, 0, 0);
 
     awirbesh_started s = awirbesh_scan(store, sizeof store, state, ALL);
     same("scan number", s.number, AWIRBESH_OK);
@@ -167,7 +367,7 @@ static awirbesh_state push_secrets(uint8_t *store)
     memset(store, OLD, STORE);
     awirbesh_state state = push_whole("secrets", store, awirbesh_fresh(), batch_ids, batch_ends, SECRETS, batch_data,
                                       sizeof batch_data);
-    same_state("secrets", state, SECRET_PAGES * PAGE, 7, 1);
+    same_state("secrets", state, SECRET_PAGES * PAGE, 7, 1, 1);
     same_bytes("a secret is stored", store + 12, batch_data, 1012);
     return state;
 }
@@ -187,7 +387,7 @@ static void push_short(const char *what, uint8_t *store, awirbesh_state state)
     size_t at = state.length, after = at + PAGE;
     memcpy(before, store, STORE);
     state = push_whole(what, store, state, batch_ids + SECRETS, &end, 1, batch_data + SECRET_BYTES, SHORT + AFTER);
-    same_state(what, state, after, 9, 1);
+    same_state(what, state, after, 9, 1, 1);
     is_short_page(what, store + at);
     same_bytes(what, store, before, at);
     same_bytes(what, store + after, before + after, STORE - after);
@@ -201,7 +401,7 @@ static void short_entry_in_one_push_with_secrets(uint8_t *store)
     memset(store, OLD, STORE);
     awirbesh_state state = push_whole("secrets and a short entry", store, awirbesh_fresh(), batch_ids, batch_ends, 4,
                                       batch_data, sizeof batch_data);
-    same_state("secrets and a short entry", state, after, 9, 1);
+    same_state("secrets and a short entry", state, after, 9, 1, 1);
     is_short_page("secrets and a short entry", store + at);
     same_bytes("past secrets and a short entry", store + after, before + after, STORE - after);
 }
@@ -215,7 +415,7 @@ static void short_entry_in_a_push_after_secrets(uint8_t *store)
 static void short_entry_over_secrets(uint8_t *store)
 {
     push_secrets(store);
-    push_short("short entry over secrets", store, awirbesh_recover(store, STORE, 0).state);
+    push_short("short entry over secrets", store, awirbesh_recover(store, STORE, 0, 0).state);
 }
 
 /* The same over the two later pages of the second secret. */
@@ -223,7 +423,7 @@ static void short_entry_over_later_pages(uint8_t *store)
 {
     for (size_t page = 2; page < 4; page++) {
         push_secrets(store);
-        push_short("short entry over a later page", store, (awirbesh_state){page * PAGE, 7, 1});
+        push_short("short entry over a later page", store, (awirbesh_state){page * PAGE, 7, 1, 1});
     }
 }
 
@@ -265,7 +465,7 @@ static void filling_at_its_edges(uint8_t *store)
         lay_out(expected, batch_data + 1012, edges[i].length);
         awirbesh_state state = push_whole("data at an edge", store, awirbesh_fresh(), ids, ends, 2, batch_data,
                                           sizeof batch_data);
-        same_state("data at an edge", state, PAGE + size, 9, 1);
+        same_state("data at an edge", state, PAGE + size, 9, 1, 1);
         same_bytes("data at an edge", store + PAGE, expected, STORE - PAGE);
     }
 }
@@ -309,15 +509,16 @@ static void is_refused(const char *what, awirbesh_pushed p, uint64_t number, awi
 {
     same(what, p.number, number);
     same(what, p.written, 0);
-    same_state(what, p.state, before.length, before.last, before.next);
+    same_state(what, p.state, before.length, before.last, before.next, before.ceiling);
 }
 
+/* Next and the ceiling are those of before. */
 static void is_written(const char *what, awirbesh_pushed p, uint64_t written, uint64_t length, uint64_t last,
-                       uint64_t next)
+                       awirbesh_state before)
 {
     same(what, p.number, AWIRBESH_OK);
     same(what, p.written, written);
-    same_state(what, p.state, length, last, next);
+    same_state(what, p.state, length, last, before.next, before.ceiling);
 }
 
 /* No byte was written since the store was made. */
@@ -348,7 +549,7 @@ static void fewer_bytes_than_too_many(void)
     static const struct {
         size_t length, pages;
     } fewer[] = {{0, 1}, {1012, 1}, {1013, 2}, {LIMIT - 1, LARGE_STORE / PAGE}};
-    const awirbesh_state before = {0, 6, 8};
+    const awirbesh_state before = {0, 6, 8, 5};
     uint8_t *store = memory_of(LARGE_STORE, OLD), *data = memory_of(LIMIT + 1, 7);
     for (size_t i = 0; i < sizeof fewer / sizeof *fewer; i++) {
         memset(store, OLD, LARGE_STORE);
@@ -359,7 +560,7 @@ static void fewer_bytes_than_too_many(void)
         is_old("after 3 and 16", store, LARGE_STORE);
         size_t after = fewer[i].pages * PAGE;
         p = push_one(store, LARGE_STORE, p.state, 7, data, fewer[i].length);
-        is_written("the same id with fewer", p, 1, after, 7, 8);
+        is_written("the same id with fewer", p, 1, after, 7, before);
         is_old("after the same id with fewer", store + after, LARGE_STORE - after);
         is_stored("the same id with fewer", store, LARGE_STORE, p.state, 7, data, fewer[i].length);
         is_refused("and once more", push_one(store, LARGE_STORE, p.state, 7, data, 0), AWIRBESH_OUT_OF_ORDER, p.state);
@@ -375,12 +576,12 @@ static const uint64_t crowd_ids[4] = {3, 5, 9, 12}, crowd_ends[4] = {100, THIRD_
 /* The store is longer than what is lent of it here. */
 static awirbesh_state push_crowd(uint8_t *store)
 {
-    const awirbesh_state before = {0, 0, 13};
+    const awirbesh_state before = {0, 0, 13, 20};
     memset(store, OLD, STORE);
     awirbesh_pushed p = awirbesh_push(store, SMALL, before, crowd_ids, 4, crowd_ends, 4, batch_data, FOURTH_ENDS);
     same("no room for the third", p.number, AWIRBESH_NO_ROOM);
     same("no room for the third, written", p.written, 2);
-    same_state("no room for the third", p.state, 3 * PAGE, 5, 13);
+    same_state("no room for the third", p.state, 3 * PAGE, 5, 13, 20);
     is_old("no room for the third", store + p.state.length, STORE - p.state.length);
     return p.state;
 }
@@ -403,7 +604,7 @@ static void less_data_in_the_same_store(uint8_t *store)
     is_refused("a byte too much for a page", p, AWIRBESH_NO_ROOM, state);
     is_old("no less data", store + 3 * PAGE, STORE - 3 * PAGE);
     p = push_one(store, SMALL, p.state, 9, third, 1012);
-    is_written("less data", p, 1, SMALL, 9, 13);
+    is_written("less data", p, 1, SMALL, 9, state);
     is_old("past less data", store + SMALL, STORE - SMALL);
     is_stored("less data", store, SMALL, p.state, 9, third, 1012);
     is_crowd("before less data", store, SMALL, p.state);
@@ -417,7 +618,7 @@ static void same_data_in_a_longer_store(uint8_t *store)
     awirbesh_pushed p = awirbesh_push(store, SMALL + PAGE - 1, state, crowd_ids + 2, 2, ends, 2, third, ends[1]);
     is_refused("a byte too short", p, AWIRBESH_NO_ROOM, state);
     p = awirbesh_push(store, STORE, p.state, crowd_ids + 2, 2, ends, 2, third, ends[1]);
-    is_written("a longer store", p, 2, 6 * PAGE, 12, 13);
+    is_written("a longer store", p, 2, 6 * PAGE, 12, state);
     is_old("past a longer store's log", store + 6 * PAGE, STORE - 6 * PAGE);
     is_stored("a longer store", store, STORE, p.state, 9, third, ends[0]);
     is_stored("a longer store", store, STORE, p.state, 12, third + ends[0], ends[1] - ends[0]);
@@ -427,8 +628,9 @@ static void same_data_in_a_longer_store(uint8_t *store)
 /* Nothing remembers what was refused: after a greater id it is out of order. */
 static void a_greater_id_first(uint8_t *store)
 {
-    awirbesh_pushed p = push_one(store, SMALL, push_crowd(store), 12, batch_data, 1012);
-    is_written("a greater id first", p, 1, SMALL, 12, 13);
+    awirbesh_state state = push_crowd(store);
+    awirbesh_pushed p = push_one(store, SMALL, state, 12, batch_data, 1012);
+    is_written("a greater id first", p, 1, SMALL, 12, state);
     is_refused("then the refused id", push_one(store, STORE, p.state, 9, batch_data, 0), AWIRBESH_OUT_OF_ORDER, p.state);
     is_crowd("before a greater id", store, SMALL, p.state);
 }
@@ -440,7 +642,7 @@ static void first_test_that_fails(uint8_t *store)
         size_t length;
         uint64_t in_order;
     } sizes[] = {{0, AWIRBESH_NO_ROOM}, {3000, AWIRBESH_NO_ROOM}, {LIMIT, AWIRBESH_TOO_LARGE}};
-    const awirbesh_state full = {SMALL, 9, 13};
+    const awirbesh_state full = {SMALL, 9, 13, 13};
     uint8_t *data = memory_of(LIMIT, 7);
     memset(store, OLD, STORE);
     for (size_t i = 0; i < sizeof sizes / sizeof *sizes; i++) {
@@ -494,35 +696,35 @@ typedef struct {
 
 static const torn torn_logs[] = {
     /* 1,021 bytes of payload take 2 pages, 2,043 too, 2,044 take 3, 16,777,215 take 16,401 */
-    {"a start of two pages alone", {{1021, 1}}, 1, 1024, {0, 0, 0, 1, {0, 0, 1}}},
-    {"it and all but a byte of its second", {{1021, 1}, {0, 0}}, 2, 2047, {0, 0, 1023, 1, {0, 0, 1}}},
-    {"both of its pages", {{1021, 1}, {0, 0}}, 2, 2048, {0, 0, 0, 0, {2048, 1, 2}}},
-    {"after an entry", {{8, 4}, {2044, 6}, {0, 0}}, 3, 3072, {0, 0, 0, 2, {1024, 4, 5}}},
-    {"after an entry, with an excess", {{8, 4}, {2044, 6}, {0, 0}, {0, 0}}, 4, 3073, {0, 0, 1, 2, {1024, 4, 5}}},
-    {"no longer cut", {{8, 4}, {2044, 6}, {0, 0}, {0, 0}}, 4, 4096, {0, 0, 0, 0, {4096, 6, 7}}},
-    {"of the largest payload", {{8, 4}, {16777215, 6}, {0, 0}}, 3, 3072, {0, 0, 0, 2, {1024, 4, 5}}},
-    {"idle pages before it stay", {{8, 4}, {0, 0}, {0, 0}, {1021, 6}}, 4, 4096, {0, 0, 0, 1, {3072, 4, 5}}},
-    {"an entry of two before it", {{2043, 4}, {0, 0}, {2044, 6}, {0, 0}}, 4, 4096, {0, 0, 0, 2, {2048, 4, 5}}},
+    {"a start of two pages alone", {{1021, 1}}, 1, 1024, {0, 0, 0, 1, {0, 0, 1, 1}}},
+    {"it and all but a byte of its second", {{1021, 1}, {0, 0}}, 2, 2047, {0, 0, 1023, 1, {0, 0, 1, 1}}},
+    {"both of its pages", {{1021, 1}, {0, 0}}, 2, 2048, {0, 0, 0, 0, {2048, 1, 2, 2}}},
+    {"after an entry", {{8, 4}, {2044, 6}, {0, 0}}, 3, 3072, {0, 0, 0, 2, {1024, 4, 5, 5}}},
+    {"after an entry, with an excess", {{8, 4}, {2044, 6}, {0, 0}, {0, 0}}, 4, 3073, {0, 0, 1, 2, {1024, 4, 5, 5}}},
+    {"no longer cut", {{8, 4}, {2044, 6}, {0, 0}, {0, 0}}, 4, 4096, {0, 0, 0, 0, {4096, 6, 7, 7}}},
+    {"of the largest payload", {{8, 4}, {16777215, 6}, {0, 0}}, 3, 3072, {0, 0, 0, 2, {1024, 4, 5, 5}}},
+    {"idle pages before it stay", {{8, 4}, {0, 0}, {0, 0}, {1021, 6}}, 4, 4096, {0, 0, 0, 1, {3072, 4, 5, 5}}},
+    {"an entry of two before it", {{2043, 4}, {0, 0}, {2044, 6}, {0, 0}}, 4, 4096, {0, 0, 0, 2, {2048, 4, 5, 5}}},
     /* page 0 would be whole if the start on page 1 were its second page: it is cut by what is left */
-    {"two starts", {{1021, 4}, {1021, 6}}, 2, 2048, {0, 0, 0, 2, {0, 0, 1}}},
-    {"two starts after an entry", {{8, 4}, {1021, 6}, {1021, 7}}, 3, 3072, {0, 0, 0, 2, {1024, 4, 5}}},
+    {"two starts", {{1021, 4}, {1021, 6}}, 2, 2048, {0, 0, 0, 2, {0, 0, 1, 1}}},
+    {"two starts after an entry", {{8, 4}, {1021, 6}, {1021, 7}}, 3, 3072, {0, 0, 0, 2, {1024, 4, 5, 5}}},
     {"two of three, the first whole", {{1021, 4}, {0, 0}, {2044, 6}, {0, 0}, {1021, 7}}, 5, 5120,
-     {0, 0, 0, 3, {2048, 4, 5}}},
+     {0, 0, 0, 3, {2048, 4, 5, 5}}},
     {"three starts, and an excess", {{8, 4}, {2044, 6}, {2044, 7}, {0, 0}, {1021, 8}, {0, 0}}, 6, 6143,
-     {0, 0, 1023, 4, {1024, 4, 5}}},
-    {"a whole start between two cut ones", {{2044, 4}, {8, 6}, {1021, 7}}, 3, 3072, {0, 0, 0, 1, {2048, 6, 7}}},
-    {"ids are not compared", {{8, 9}, {8, 0}, {1021, 7}}, 3, 3072, {0, 0, 0, 1, {2048, 0, 1}}},
+     {0, 0, 1023, 4, {1024, 4, 5, 5}}},
+    {"a whole start between two cut ones", {{2044, 4}, {8, 6}, {1021, 7}}, 3, 3072, {0, 0, 0, 1, {2048, 6, 7, 7}}},
+    {"ids are not compared", {{8, 9}, {8, 0}, {1021, 7}}, 3, 3072, {0, 0, 0, 1, {2048, 0, 1, 1}}},
     {"seven starts, all dropped", {{1021, 1}, {1021, 2}, {1021, 3}, {1021, 4}, {1021, 5}, {1021, 6}, {1021, 7}}, 7,
-     7168, {0, 0, 0, 7, {0, 0, 1}}},
+     7168, {0, 0, 0, 7, {0, 0, 1, 1}}},
     /* the last id of all, met after a drop; in a cut entry it is dropped with it */
-    {"9 after a drop", {{8, 4}, {8, UINT64_MAX}, {1021, 7}}, 3, 3072, {9, 0, 0, 0, {0, 0, 0}}},
-    {"9 after a drop, with an excess", {{8, UINT64_MAX}, {1021, 7}, {0, 0}}, 3, 2500, {9, 0, 0, 0, {0, 0, 0}}},
-    {"a cut entry of that id", {{8, 4}, {1021, UINT64_MAX}}, 2, 2048, {0, 0, 0, 1, {1024, 4, 5}}},
+    {"9 after a drop", {{8, 4}, {8, UINT64_MAX}, {1021, 7}}, 3, 3072, {9, 0, 0, 0, {0, 0, 0, 0}}},
+    {"9 after a drop, with an excess", {{8, UINT64_MAX}, {1021, 7}, {0, 0}}, 3, 2500, {9, 0, 0, 0, {0, 0, 0, 0}}},
+    {"a cut entry of that id", {{8, 4}, {1021, UINT64_MAX}}, 2, 2048, {0, 0, 0, 1, {1024, 4, 5, 5}}},
     {"the id before it", {{8, UINT64_MAX - 1}, {1021, UINT64_MAX}}, 2, 2048,
-     {0, 0, 0, 1, {1024, UINT64_MAX - 1, UINT64_MAX}}},
-    {"6 before a drop", {{8, 4}, {7, 6}}, 2, 2048, {6, 1, 0, 0, {0, 0, 0}}},
-    {"6 after a drop", {{8, 4}, {7, 6}, {1021, 7}}, 3, 3072, {6, 1, 0, 0, {0, 0, 0}}},
-    {"8 after a drop", {{0, 0}, {0, 0}, {1021, 7}, {0, 0}}, 4, 3072, {8, 0, 0, 0, {0, 0, 0}}},
+     {0, 0, 0, 1, {1024, UINT64_MAX - 1, UINT64_MAX, UINT64_MAX}}},
+    {"6 before a drop", {{8, 4}, {7, 6}}, 2, 2048, {6, 1, 0, 0, {0, 0, 0, 0}}},
+    {"6 after a drop", {{8, 4}, {7, 6}, {1021, 7}}, 3, 3072, {6, 1, 0, 0, {0, 0, 0, 0}}},
+    {"8 after a drop", {{0, 0}, {0, 0}, {1021, 7}, {0, 0}}, 4, 3072, {8, 0, 0, 0, {0, 0, 0, 0}}},
 };
 
 static void same_recovery(const char *what, awirbesh_recovered r, awirbesh_recovered expected)
@@ -531,7 +733,22 @@ static void same_recovery(const char *what, awirbesh_recovered r, awirbesh_recov
     same(what, r.value, expected.value);
     same(what, r.excess, expected.excess);
     same(what, r.dropped, expected.dropped);
-    same_state(what, r.state, expected.state.length, expected.state.last, expected.state.next);
+    same_state(what, r.state, expected.state.length, expected.state.last, expected.state.next,
+               expected.state.ceiling);
+}
+
+/* Recovers with stored ceilings about the last id and at the ends of all numbers. What is expected is that with 0: a
+ * stored ceiling above next becomes next, and the ceiling is next. A refusal is the same with each. */
+static void with_each_ceiling(const char *what, const uint8_t *store, size_t store_len, uint64_t length,
+                              awirbesh_recovered expected)
+{
+    uint64_t last = expected.state.last, next = expected.state.next;
+    const uint64_t ceilings[] = {0, 1, 2, last - 1, last, last + 1, last + 2, UINT64_MAX - 1, UINT64_MAX};
+    for (size_t i = 0; i < sizeof ceilings / sizeof *ceilings; i++) {
+        if (expected.number == 0)
+            expected.state.next = expected.state.ceiling = ceilings[i] > next ? ceilings[i] : next;
+        same_recovery(what, awirbesh_recover(store, store_len, length, ceilings[i]), expected);
+    }
 }
 
 /* Rule 13.9: (1, "hello") and id 2 with a payload of 3,000 bytes, four pages, whole and cut at three places. */
@@ -544,14 +761,15 @@ static void two_entries_that_are_cut(void)
     awirbesh_pushed p = awirbesh_push(store, 4096, awirbesh_fresh(), ids, 2, ends, 2, data, 2997);
     same("two to be cut", p.number, 0);
     same("two to be cut, written", p.written, 2);
-    same_state("two to be cut", p.state, 4096, 2, 1);
-    same_recovery("two, whole", awirbesh_recover(store, 4096, 4096), (awirbesh_recovered){0, 0, 0, 0, {4096, 2, 3}});
-    same_recovery("two, cut at byte 3,500", awirbesh_recover(store, 4096, 3500),
-                  (awirbesh_recovered){0, 0, 428, 2, {1024, 1, 2}});
-    same_recovery("two, cut at byte 2,047", awirbesh_recover(store, 4096, 2047),
-                  (awirbesh_recovered){0, 0, 1023, 0, {1024, 1, 2}});
-    same_recovery("two, cut at byte 1,023", awirbesh_recover(store, 4096, 1023),
-                  (awirbesh_recovered){0, 0, 1023, 0, {0, 0, 1}});
+    same_state("two to be cut", p.state, 4096, 2, 1, 1);
+    same_recovery("two, whole", awirbesh_recover(store, 4096, 4096, 0),
+                  (awirbesh_recovered){0, 0, 0, 0, {4096, 2, 3, 3}});
+    same_recovery("two, cut at byte 3,500", awirbesh_recover(store, 4096, 3500, 0),
+                  (awirbesh_recovered){0, 0, 428, 2, {1024, 1, 2, 2}});
+    same_recovery("two, cut at byte 2,047", awirbesh_recover(store, 4096, 2047, 0),
+                  (awirbesh_recovered){0, 0, 1023, 0, {1024, 1, 2, 2}});
+    same_recovery("two, cut at byte 1,023", awirbesh_recover(store, 4096, 1023, 0),
+                  (awirbesh_recovered){0, 0, 1023, 0, {0, 0, 1, 1}});
 }
 
 static void logs_that_are_torn(void)
@@ -563,17 +781,20 @@ static void logs_that_are_torn(void)
         for (size_t page = 0; page < t->count; page++)
             put_page(store, page, t->pages[page].payload, t->pages[page].id);
         memcpy(before, store, STORE);
-        same_recovery(t->what, awirbesh_recover(store, STORE, t->length), t->expected);
+        with_each_ceiling(t->what, store, STORE, t->length, t->expected);
         same_bytes(t->what, store, before, STORE);
         /* the same in a store that ends there, as the mark that stands after it is none of the log's */
-        same_recovery(t->what, awirbesh_recover(store, t->length, t->length), t->expected);
+        with_each_ceiling(t->what, store, t->length, t->length, t->expected);
     }
     /* 5 after a drop, and none for a bad mark below the last whole entry */
     memset(store, OLD, STORE);
     put_page(store, 2, 1021, 7);
-    same_recovery("5 after a drop", awirbesh_recover(store, STORE, 3072), (awirbesh_recovered){5, 1, 0, 0, {0, 0, 0}});
+    with_each_ceiling("5 after a drop", store, STORE, 3072, (awirbesh_recovered){5, 1, 0, 0, {0, 0, 0, 0}});
     put_page(store, 1, 8, 4);
-    same_recovery("5 is not met", awirbesh_recover(store, STORE, 3072), (awirbesh_recovered){0, 0, 0, 1, {2048, 4, 5}});
+    with_each_ceiling("5 is not met", store, STORE, 3072, (awirbesh_recovered){0, 0, 0, 1, {2048, 4, 5, 5}});
+    with_each_ceiling("a length above the store", store, 2048, 2049, (awirbesh_recovered){1, 0, 0, 0, {0, 0, 0, 0}});
+    with_each_ceiling("no length", store, STORE, 0, (awirbesh_recovered){0, 0, 0, 0, {0, 0, 1, 1}});
+    with_each_ceiling("less than a page", store, STORE, 1023, (awirbesh_recovered){0, 0, 1023, 0, {0, 0, 1, 1}});
 }
 
 /* A store of exactly 2^31 bytes is one, and of one byte more is none. Only pages that are read are ever there. */
@@ -585,30 +806,30 @@ static void largest_store(void)
         abort();
     uint8_t out[1];
     uint64_t id = 3, end = 1;
-    awirbesh_state full = {limit - 1024, 2, 4}, fresh = awirbesh_fresh();
+    awirbesh_state full = {limit - 1024, 2, 4, 4}, fresh = awirbesh_fresh();
     awirbesh_pushed p = awirbesh_push(store, limit, full, &id, 1, &end, 1, (const uint8_t *)"x", 1);
     same("push at the end of 2^31", p.number, AWIRBESH_OK);
     same("push at the end of 2^31, length", p.state.length, limit);
-    awirbesh_recovered r = awirbesh_recover(store, limit, limit);
+    awirbesh_recovered r = awirbesh_recover(store, limit, limit, 0);
     same("recover 2^31", r.number, AWIRBESH_OK);
-    same_state("recover 2^31", r.state, limit, 3, 4);
-    awirbesh_state found = {limit, 3, 4};
+    same_state("recover 2^31", r.state, limit, 3, 4, 4);
+    awirbesh_state found = {limit, 3, 4, 4};
     same("lookup in 2^31", awirbesh_lookup(store, limit, found, 3, out, 1).position, limit - 1024);
     same("check of 2^31", awirbesh_check(store, limit, limit).number, AWIRBESH_NO_ENTRIES);
-    r = awirbesh_recover(store, limit, limit - 1); /* all marks down to page 0 are 0 */
-    same_recovery("recover 2^31 less one", r, (awirbesh_recovered){AWIRBESH_NO_ENTRIES, 0, 0, 0, {0, 0, 0}});
+    r = awirbesh_recover(store, limit, limit - 1, 0); /* all marks down to page 0 are 0 */
+    same_recovery("recover 2^31 less one", r, (awirbesh_recovered){AWIRBESH_NO_ENTRIES, 0, 0, 0, {0, 0, 0, 0}});
     put_page(store, 0, 8, 2);
     put_page(store, limit / PAGE - 1, 16777215, 3);
-    r = awirbesh_recover(store, limit, limit);
-    same_recovery("a torn one of 2^31", r, (awirbesh_recovered){0, 0, 0, 1, {limit - 1024, 2, 3}});
+    r = awirbesh_recover(store, limit, limit, 0);
+    same_recovery("a torn one of 2^31", r, (awirbesh_recovered){0, 0, 0, 1, {limit - 1024, 2, 3, 3}});
     put_page(store, 1, 16777215, 3); /* pages 1 to 16,401, of which a byte is missing */
-    r = awirbesh_recover(store, limit, 16402 * PAGE - 1);
-    same_recovery("the largest entry, torn", r, (awirbesh_recovered){0, 0, 1023, 16400, {1024, 2, 3}});
-    r = awirbesh_recover(store, limit, 16402 * PAGE);
-    same_recovery("the largest entry, whole", r, (awirbesh_recovered){0, 0, 0, 0, {16402 * PAGE, 3, 4}});
+    r = awirbesh_recover(store, limit, 16402 * PAGE - 1, 0);
+    same_recovery("the largest entry, torn", r, (awirbesh_recovered){0, 0, 1023, 16400, {1024, 2, 3, 3}});
+    r = awirbesh_recover(store, limit, 16402 * PAGE, 0);
+    same_recovery("the largest entry, whole", r, (awirbesh_recovered){0, 0, 0, 0, {16402 * PAGE, 3, 4, 4}});
 
     same("check above", awirbesh_check(store, limit + 1, 0).number, AWIRBESH_BAD_STATE);
-    same("recover above", awirbesh_recover(store, limit + 1, 0).number, AWIRBESH_BAD_STATE);
+    same("recover above", awirbesh_recover(store, limit + 1, 0, 0).number, AWIRBESH_BAD_STATE);
     same("lookup above", awirbesh_lookup(store, limit + 1, fresh, 0, out, 1).number, AWIRBESH_BAD_STATE);
     same("find above", awirbesh_find(store, limit + 1, fresh, 0).number, AWIRBESH_BAD_STATE);
     same("scan above", awirbesh_scan(store, limit + 1, fresh, ALL).number, AWIRBESH_BAD_STATE);
@@ -644,7 +865,9 @@ static void sequences(void)
 
 int main(void)
 {
-    states();
+    ids_are_taken();
+    ceilings_are_raised();
+    used_ids_stay_used();
     two_entries();
     no_old_bytes_in_the_filling();
     refused_entries_keep_their_ids();

@@ -12,7 +12,7 @@ enum { STACK = 1 << 18, LIMIT = 16 * 1024, PAINT = 0xA7, STORE = 1100 * 1024, DA
 static uint8_t stack[STACK], *store, *torn, *data, *out;
 static uint64_t words[AWIRBESH_SEQUENCE_WORDS];
 static awirbesh_state state;
-static uint64_t dropped;
+static uint64_t taken, dropped;
 static ucontext_t here, there;
 
 static const uint64_t ids[4] = {1, 3, 4, 9}, ends[4] = {10, 3010, 3010, DATA};
@@ -21,10 +21,11 @@ static const awirbesh_range part = {{AWIRBESH_EXCLUDED, 1}, {AWIRBESH_INCLUDED, 
 static void nothing(void) {}
 static void fresh(void) { state = awirbesh_fresh(); }
 static void push(void) { state = awirbesh_push(store, STORE, state, ids, 4, ends, 4, data, DATA).state; }
-static void take(void) { state = awirbesh_take(state).state; }
+static void raise_ceiling(void) { state = awirbesh_raise(state, 11).state; }
+static void take(void) { taken = awirbesh_take(state).id; }
 static void check(void) { awirbesh_check(store, STORE, state.length); }
-static void recover(void) { state = awirbesh_recover(store, STORE, state.length).state; }
-static void recover_torn(void) { dropped = awirbesh_recover(torn, STORE, STORE).dropped; }
+static void recover(void) { state = awirbesh_recover(store, STORE, state.length, state.ceiling).state; }
+static void recover_torn(void) { dropped = awirbesh_recover(torn, STORE, STORE, 0).dropped; }
 static void lookup(void) { awirbesh_lookup(store, STORE, state, 9, out, DATA); }
 static void find(void) { awirbesh_find(store, STORE, state, 9); }
 static void scan(void) { awirbesh_scan(store, STORE, state, part); }
@@ -37,7 +38,7 @@ static const struct {
     const char *name;
     void (*call)(void);
 } calls[] = {
-    {"fresh", fresh},     {"push", push}, {"take", take}, {"check", check}, {"recover", recover},
+    {"fresh", fresh}, {"push", push}, {"raise", raise_ceiling}, {"take", take}, {"check", check}, {"recover", recover},
     {"  torn", recover_torn}, {"find", find}, {"lookup", lookup}, {"scan", scan}, {"step", step},
     {"sequence_new", sequence_new}, {"sequence_note", sequence_note}, {"sequence_complete", sequence_complete},
 };
@@ -75,9 +76,11 @@ int main(void)
         if (used >= LIMIT)
             failed = 1;
     }
-    /* The calls did their work: the four entries take 1, 3, 1 and 1,023 pages, and recovery met the last, or dropped
-     * every page. */
-    if (state.length != (uint64_t)(1 + 3 + 1 + 1023) * 1024 || state.next != 10 || dropped != STORE / 1024)
+    /* The calls did their work: the four entries take 1, 3, 1 and 1,023 pages, and recovery met the last and was given
+     * the raised ceiling, or dropped every page; id 1 was taken. */
+    if (state.length != (uint64_t)(1 + 3 + 1 + 1023) * 1024 || state.last != 9 || state.next != 12)
+        failed = 1;
+    if (dropped != STORE / 1024 || taken != 1)
         failed = 1;
     printf(failed ? "too much stack, or a call that did nothing\n" : "each under 16 KiB\n");
     return failed;

@@ -47,9 +47,9 @@ static void must(int holds, const char *why)
         stop(why);
 }
 
-static void must_be(awirbesh_state state, uint64_t length, uint64_t last, uint64_t next, const char *why)
+static void must_be(awirbesh_state state, awirbesh_state expected, const char *why)
 {
-    must(state.length == length && state.last == last && state.next == next, why);
+    must(memcmp(&state, &expected, sizeof state) == 0, why);
 }
 
 static uint64_t last_id(const held *log)
@@ -129,17 +129,20 @@ static awirbesh_state push(uint8_t *store, awirbesh_state state, held *log, cons
     }
     awirbesh_pushed p = awirbesh_push(store, STORE, state, ids, count, ends, count, data, end);
     must(p.number == 0 && p.written == count, "a push is refused");
-    must_be(p.state, log->pages * PAGE, last_id(log), state.next, "a push leaves another state");
+    must_be(p.state, (awirbesh_state){log->pages * PAGE, last_id(log), state.next, state.ceiling},
+            "a push leaves another state");
     p.state.next = last_id(log) + 1;
     return p.state;
 }
 
-/* Recovers a log that was cut there, and holds the answer to what is left. */
-static awirbesh_state recover(const uint8_t *store, const held *left, uint64_t at)
+/* Recovers a log that was cut there, and holds the answer to what is left and to the ceiling that was stored. */
+static awirbesh_state recover(const uint8_t *store, const held *left, uint64_t at, uint64_t stored)
 {
-    awirbesh_recovered r = awirbesh_recover(store, STORE, at), short_of = awirbesh_recover(store, at, at);
+    awirbesh_recovered r = awirbesh_recover(store, STORE, at, stored);
+    awirbesh_recovered short_of = awirbesh_recover(store, at, at, stored);
+    uint64_t next = last_id(left) < stored ? stored : last_id(left) + 1;
     must(r.number == 0 && r.value == 0, "recovery is refused");
-    must_be(r.state, left->pages * PAGE, last_id(left), last_id(left) + 1, "recovery gives another state");
+    must_be(r.state, (awirbesh_state){left->pages * PAGE, last_id(left), next, next}, "recovery gives another state");
     must(r.excess == at % PAGE, "recovery reports another excess");
     must(r.dropped == at / PAGE - left->pages, "recovery reports other pages dropped");
     must(r.state.length + PAGE * r.dropped + r.excess == at, "excess and dropped pages do not add up to the cut");
@@ -157,7 +160,7 @@ enum { MORE = sizeof more / sizeof *more };
 
 /* Goes on from what was recovered: one more entry, or a batch of three; and cuts in it. All data is read back at each
  * fifth cut, else the places alone, since the bytes before the push are compared. */
-static void go_on(const uint8_t *store, awirbesh_state state, held log, uint64_t highest)
+static void go_on(const uint8_t *store, awirbesh_state state, held log, uint64_t stored, uint64_t highest)
 {
     static uint8_t later[STORE];
     size sizes[3] = {more[cut % MORE], more[cut / 7 % MORE], more[cut / 5 % MORE]};
@@ -165,8 +168,9 @@ static void go_on(const uint8_t *store, awirbesh_state state, held log, uint64_t
     if (log.pages + sizes[0].pages + sizes[1].pages + sizes[2].pages > PAGES)
         count = 1;
     memcpy(later, store, STORE);
-    awirbesh_taken t = awirbesh_take(state);
-    must(t.number == 0 && t.id == last_id(&log) + 1, "another id is taken");
+    must(awirbesh_take(state).number == AWIRBESH_CEILING_REACHED, "an id is taken before the ceiling is raised");
+    awirbesh_taken t = awirbesh_take(awirbesh_raise(state, 5).state);
+    must(t.number == 0 && t.id == state.next, "another id is taken");
     state = push(later, state, &log, sizes, count, 2);
     uint64_t to = state.length;
     must(memcmp(later, store, from) == 0, "a push changed the log before it");
@@ -175,21 +179,22 @@ static void go_on(const uint8_t *store, awirbesh_state state, held log, uint64_t
     look_up(later, state, &log, highest, cut % 5 == 0);
     second = from + cut * 7919 % (to - from + 1);
     held left = left_by(&log, second);
-    look_up(later, recover(later, &left, second), &left, highest, 0);
+    look_up(later, recover(later, &left, second, stored), &left, highest, 0);
     second = UINT64_MAX;
 }
 
-/* The store holds the whole log's bytes before the cut and others beyond it. */
+/* The store holds the whole log's bytes before the cut and others beyond it. With no ceiling stored what is left decides
+ * the next id; with the one that was stored before the push the ids that are cut off stay used. */
 static void try_cut(const uint8_t *store, const held *log, uint64_t at, const uint8_t *whole, const uint8_t *beyond)
 {
-    uint64_t highest = last_id(log) + 3;
+    uint64_t stored = at % 2 ? last_id(log) + 1 : 0, highest = last_id(log) + 8;
     held left = left_by(log, at);
     cut = at;
-    awirbesh_state state = recover(store, &left, at);
+    awirbesh_state state = recover(store, &left, at, stored);
     look_up(store, state, &left, highest, 1);
     must(memcmp(store, whole, at) == 0 && memcmp(store + at, beyond + at, STORE - at) == 0,
          "recovery, a check or a lookup changed the store");
-    go_on(store, state, left, highest);
+    go_on(store, state, left, stored, highest);
     cases++;
 }
 
@@ -264,11 +269,11 @@ static void cut_the_last_id(void)
     state = push(store, state, &log, &(size){2036, 3}, 1, 1);
     for (cut = 0; cut < state.length; cut++) {
         held left = left_by(&log, cut);
-        look_up(store, recover(store, &left, cut), &left, 3, 1);
+        look_up(store, recover(store, &left, cut, cut % 2 ? UINT64_MAX : 0), &left, 3, 1);
     }
-    awirbesh_recovered r = awirbesh_recover(store, STORE, cut);
+    awirbesh_recovered r = awirbesh_recover(store, STORE, cut, UINT64_MAX);
     must(r.number == AWIRBESH_IDS_USED_UP && r.value == 0 && r.excess == 0 && r.dropped == 0, "9 is not answered");
-    must_be(r.state, 0, 0, 0, "9 is answered with a state");
+    must_be(r.state, (awirbesh_state){0, 0, 0, 0}, "9 is answered with a state");
 }
 
 /* ---- one pass ---- */
@@ -283,10 +288,10 @@ static double seconds(void)
 static double time_of(const uint8_t *store, uint64_t pages)
 {
     double start = seconds();
-    awirbesh_recovered r = awirbesh_recover(store, pages * PAGE, pages * PAGE);
+    awirbesh_recovered r = awirbesh_recover(store, pages * PAGE, pages * PAGE, 1);
     double took = seconds() - start;
     must(r.number == 0 && r.dropped == pages && r.excess == 0, "a tail of cut starts is not dropped");
-    must_be(r.state, 0, 0, 1, "a log of which all is dropped is not fresh");
+    must_be(r.state, awirbesh_fresh(), "a log of which all is dropped is not fresh");
     return took;
 }
 
