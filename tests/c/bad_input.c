@@ -5,7 +5,8 @@
  * byte outside stops the program; what is left of the room on the other side holds a pattern that is compared.
  *
  * bad_input SEED CALLS: prints how often each function gave each answer, and fails on a wrong answer, on a
- * changed byte, and where some answer that the rules have, or some kind of torn log, did not come up at all.
+ * changed byte, and where some answer that the rules have, some kind of torn log, or a stored ceiling on some side of
+ * the last id, did not come up at all.
  */
 #include "awirbesh.h"
 #include "model.h"
@@ -53,6 +54,19 @@ static uint64_t any_number(void)
         return below(100);
     default:
         return chance() >> below(64);
+    }
+}
+
+/* A number about another one, on either side of it, or any. Past the ends of all numbers it wraps. */
+static uint64_t near(uint64_t number)
+{
+    switch (below(4)) {
+    case 0:
+        return any_number();
+    case 1:
+        return number + below(1000);
+    default:
+        return number + below(3) - 1;
     }
 }
 
@@ -163,7 +177,7 @@ static uint64_t some_payload(void)
 static awirbesh_state sound_log(void)
 {
     static uint8_t bytes[8192];
-    awirbesh_state state = {0, 0, 1};
+    awirbesh_state state = {0, 0, 1, 1};
     uint64_t gap = one_in(4) ? chance() >> (1 + below(60)) : 1 + below(4);
     for (size_t i = 0; i < sizeof bytes; i += 8) {
         uint64_t r = chance();
@@ -221,7 +235,7 @@ static void damage(uint64_t length)
 /* Entries of one page each whose ids are in no order: which page is found depends on every guess on the way. */
 static awirbesh_state disordered_log(void)
 {
-    awirbesh_state state = {store.len / PAGE * PAGE, chance(), 0};
+    awirbesh_state state = {store.len / PAGE * PAGE, chance(), 0, 0};
     uint64_t shift = below(40);
     for (size_t at = 0; at < state.length; at += PAGE) {
         uint64_t id = chance() >> shift;
@@ -332,6 +346,7 @@ static awirbesh_state some_log(void)
         state.last = any_number();
     if (one_in(6))
         state.next = any_number();
+    state.ceiling = near(state.next);
     return state;
 }
 
@@ -362,19 +377,26 @@ static uint64_t some_id(awirbesh_state state)
 
 /* ---- the calls, each held to the model ---- */
 
-/* TORN are the recoveries that met a cut start first; of those that gave a state, TWICE dropped more than one start,
+/* Of the recoveries that gave a state, in ABOVE, EQUAL and UNDER the stored ceiling was above, at and below the last id
+ * and one. TORN are those that met a cut start first; of these, if they gave a state, TWICE dropped more than one start,
  * PARTLY an excess too, EMPTIED everything. CUT are those of a sound log that was cut at any byte and lost pages. */
-enum { TAKE, CHECK, RECOVER, TORN, TWICE, PARTLY, EMPTIED, CUT };
+enum { TAKE, RAISE, CHECK, RECOVER, ABOVE, EQUAL, UNDER, TORN, TWICE, PARTLY, EMPTIED, CUT };
 enum { FIND = CUT + 1, LOOKUP, ABSENT, SCAN, STEP, ENDED, PUSH, AGAIN, NOTE, KINDS };
 static const char *const names[KINDS] = {
-    "take", "check",  "recover",  "  torn", "  twice", "  partly", "  emptied", "  cut",   "find",
-    "lookup", "  absent", "scan", "step",   "  end",   "push",     "  again",   "note",
+    "take",     "raise",     "check", "recover", "  above",  "  equal", "  under", "  torn", "  twice",
+    "  partly", "  emptied", "  cut", "find",    "lookup",   "  absent", "scan",   "step",   "  end",
+    "push",     "  again",   "note",
 };
+enum { NUMBERS = 32 };
 /* The refusals that the rules let each give, as bits. */
 static const uint32_t possible[KINDS] = {
-    1u | 1u << 9,
+    1u | 1u << 9 | 1u << 30,
+    1u | 1u << 31,
     1u | 1u << 1 | 1u << 5 | 1u << 6 | 1u << 7 | 1u << 8 | 1u << 14 | 1u << 15,
     1u | 1u << 1 | 1u << 5 | 1u << 6 | 1u << 8 | 1u << 9,
+    1u,
+    1u,
+    1u,
     1u | 1u << 5 | 1u << 6 | 1u << 8 | 1u << 9,
     1u,
     1u,
@@ -390,7 +412,7 @@ static const uint32_t possible[KINDS] = {
     1u | 1u << 2 | 1u << 4,
     1u | 1u << 11 | 1u << 12,
 };
-static uint64_t counts[KINDS][17], calls;
+static uint64_t counts[KINDS][NUMBERS], calls;
 
 #define MUST_EQUAL(what, got, expected)                   \
     do {                                                  \
@@ -400,7 +422,7 @@ static uint64_t counts[KINDS][17], calls;
 
 static void count_case(int kind, uint64_t number)
 {
-    if (number > 16 || !(possible[kind] >> number & 1))
+    if (number >= NUMBERS || !(possible[kind] >> number & 1))
         stop("an answer that the rules do not have");
     counts[kind][number]++;
 }
@@ -418,6 +440,24 @@ static void try_take(awirbesh_state state)
     count(TAKE, got.number);
 }
 
+/* A step about the least, the longest, or what a ceiling has left to the end of all numbers. */
+static uint64_t some_step(uint64_t ceiling)
+{
+    const uint64_t edges[] = {1, (uint64_t)1 << 32, UINT64_MAX - ceiling};
+    return one_in(4) ? any_number() : edges[below(3)] + below(3) - 1;
+}
+
+/* Half of the ceilings lie so high that the sum with a step that is allowed may pass the end of all numbers. */
+static void try_raise(awirbesh_state state)
+{
+    if (one_in(2))
+        state.ceiling = UINT64_MAX - (one_in(2) ? below(4) : ((uint64_t)1 << 32) + below(5) - 2);
+    uint64_t step = some_step(state.ceiling);
+    awirbesh_raised got = awirbesh_raise(state, step), expected = model_raise(state, step);
+    MUST_EQUAL("raise", got, expected);
+    count(RAISE, got.number);
+}
+
 static void try_check(awirbesh_state state)
 {
     awirbesh_checked got = awirbesh_check(store.bytes, store.len, state.length);
@@ -430,7 +470,7 @@ static void try_check(awirbesh_state state)
 static int ends_cut(uint64_t length)
 {
     const awirbesh_range all = {{AWIRBESH_OPEN, 0}, {AWIRBESH_OPEN, 0}};
-    awirbesh_state state = {length / PAGE * PAGE, 0, 0};
+    awirbesh_state state = {length / PAGE * PAGE, 0, 0, 0};
     uint64_t at = state.length;
     while (at > 0 && store.copy[at - PAGE] == 0)
         at -= PAGE;
@@ -448,10 +488,13 @@ static int starts_dropped(awirbesh_recovered r)
 
 static awirbesh_recovered try_recover(uint64_t length)
 {
-    awirbesh_recovered got = awirbesh_recover(store.bytes, store.len, length);
-    awirbesh_recovered expected = model_recover(store.copy, store.len, length);
+    uint64_t least = model_recover(store.copy, store.len, length, 0).state.next, stored = near(least);
+    awirbesh_recovered got = awirbesh_recover(store.bytes, store.len, length, stored);
+    awirbesh_recovered expected = model_recover(store.copy, store.len, length, stored);
     MUST_EQUAL("recover", got, expected);
     count(RECOVER, got.number);
+    if (got.number == 0)
+        count_case(stored > least ? ABOVE : stored == least ? EQUAL : UNDER, 0);
     if (got.number != AWIRBESH_BAD_STATE && ends_cut(length)) {
         count_case(TORN, got.number);
         if (got.number == 0 && starts_dropped(got) > 1)
@@ -722,6 +765,7 @@ static void round_of_calls(void)
     awirbesh_state state = some_log();
     remember(&store);
     try_take(state);
+    try_raise(state);
     try_check(state);
     try_recover(state.length);
     try_cut(state);
@@ -741,7 +785,7 @@ static int report(void)
     int missing = 0;
     for (int k = 0; k < KINDS; k++) {
         printf("%-9s", names[k]);
-        for (int r = 0; r < 17; r++) {
+        for (int r = 0; r < NUMBERS; r++) {
             if (!(possible[k] >> r & 1))
                 continue;
             printf("  %d: %llu", r, (unsigned long long)counts[k][r]);

@@ -4,6 +4,7 @@
 
 enum { PAGE = 1024, ON_FIRST = 1020, ON_LATER = 1023, LARGEST = 16777208 };
 #define STORE_LIMIT ((uint64_t)1 << 31)
+#define LONGEST_STEP ((uint64_t)1 << 32)
 
 static uint64_t pages_of(uint64_t payload)
 {
@@ -61,10 +62,22 @@ awirbesh_taken model_take(awirbesh_state state)
     awirbesh_taken r = {0, 0, state};
     if (state.next == UINT64_MAX) {
         r.number = 9;
+    } else if (state.next >= state.ceiling) {
+        r.number = 30;
     } else {
         r.id = state.next;
         r.state.next++;
     }
+    return r;
+}
+
+awirbesh_raised model_raise(awirbesh_state state, uint64_t step)
+{
+    awirbesh_raised r = {0, state};
+    if (step < 1 || step > LONGEST_STEP || step > UINT64_MAX - state.ceiling)
+        r.number = 31;
+    else
+        r.state.ceiling += step;
     return r;
 }
 
@@ -101,9 +114,16 @@ awirbesh_checked model_check(const uint8_t *store, size_t store_len, uint64_t le
     return (awirbesh_checked){0, 0};
 }
 
-awirbesh_recovered model_recover(const uint8_t *store, size_t store_len, uint64_t length)
+/* The state that a log is left in: the next id is new to the log and to whoever stored the ceiling. */
+static awirbesh_state left_at(uint64_t length, uint64_t last, uint64_t stored)
 {
-    const awirbesh_recovered refused = {0, 0, 0, 0, {0, 0, 0}};
+    uint64_t next = stored > last + 1 ? stored : last + 1;
+    return (awirbesh_state){length, last, next, next};
+}
+
+awirbesh_recovered model_recover(const uint8_t *store, size_t store_len, uint64_t length, uint64_t stored)
+{
+    const awirbesh_recovered refused = {0, 0, 0, 0, {0, 0, 0, 0}};
     awirbesh_recovered r = refused;
     if (store_len > STORE_LIMIT || length > store_len) {
         r.number = 1;
@@ -129,10 +149,10 @@ awirbesh_recovered model_recover(const uint8_t *store, size_t store_len, uint64_
             r.value = s.refusal ? page : 0;
             return r;
         }
-        r.state = (awirbesh_state){pages * PAGE, s.id, s.id + 1};
+        r.state = left_at(pages * PAGE, s.id, stored);
         return r;
     }
-    r.state = (awirbesh_state){0, 0, 1};
+    r.state = left_at(0, 0, stored);
     return r;
 }
 

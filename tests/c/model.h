@@ -6,8 +6,9 @@
 #include "awirbesh.h"
 
 awirbesh_taken model_take(awirbesh_state state);
+awirbesh_raised model_raise(awirbesh_state state, uint64_t step);
 awirbesh_checked model_check(const uint8_t *store, size_t store_len, uint64_t length);
-awirbesh_recovered model_recover(const uint8_t *store, size_t store_len, uint64_t length);
+awirbesh_recovered model_recover(const uint8_t *store, size_t store_len, uint64_t length, uint64_t stored);
 awirbesh_look model_find(const uint8_t *store, size_t store_len, awirbesh_state state, uint64_t id);
 awirbesh_look model_lookup(const uint8_t *store, size_t store_len, awirbesh_state state, uint64_t id, uint8_t *out,
                            size_t out_len);
