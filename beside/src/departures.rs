@@ -1,7 +1,7 @@
 //! Why the Rust departs: each departure is an entry of docs/DIFFERENCES.md, told by its cause, not its answer alone.
 use nebari::transaction::log::probe::guess;
 
-use crate::{layout, rust::caught, Entry, Held, Looked, Pair, Push, PushedBy, RecoveredBy, State, PAGE, TOO_LARGE};
+use crate::{layout, rust::caught, Entry, Held, Looked, Numbers, Pair, Push, PushedBy, RecoveredBy, PAGE, TOO_LARGE};
 
 /// An entry of docs/DIFFERENCES.md that explains a disagreement on the compared domain.
 #[derive(Clone, Copy, Debug, PartialEq, Eq, PartialOrd, Ord)]
@@ -15,6 +15,7 @@ pub enum Departure {
     NoRoom,
     TornEntry,
     PartPage,
+    UsedId,
     LowNote,
     WideNote,
     LastNote,
@@ -22,7 +23,7 @@ pub enum Departure {
 }
 
 impl Departure {
-    pub const ALL: [Departure; 13] = [
+    pub const ALL: [Departure; 14] = [
         Departure::LaterPages,
         Departure::IdlePages,
         Departure::FarApart,
@@ -32,6 +33,7 @@ impl Departure {
         Departure::NoRoom,
         Departure::TornEntry,
         Departure::PartPage,
+        Departure::UsedId,
         Departure::LowNote,
         Departure::WideNote,
         Departure::LastNote,
@@ -50,6 +52,7 @@ impl Departure {
             Departure::NoRoom => "A store has an end",
             Departure::TornEntry => "An entry that was cut short",
             Departure::PartPage => "Less than a page",
+            Departure::UsedId => "A used id comes again after a restart",
             Departure::LowNote => "An id noted below the start",
             Departure::WideNote => "An id noted outside the window",
             Departure::LastNote => "The last id noted",
@@ -150,7 +153,7 @@ pub fn of_written(written: &[Entry], rust: &[u8]) -> Option<Departure> {
 /// pages, and the Rust has the entry's id for last written, which it sets before it tests the size.
 pub fn of_push(push: &Push, ours: &PushedBy, rust: &PushedBy) -> Option<Departure> {
     let (kept, refused) = (push.state_after(), push.refused()?);
-    let answer = |last: u64| PushedBy::Answered { number: 3, state: State { last, ..kept } };
+    let answer = |last: u64| PushedBy::Answered { number: 3, state: Numbers { last, ..kept } };
     let met_by_three = refused.id > kept.last && refused.data.len() == TOO_LARGE;
     let departs = *ours == answer(kept.last) && *rust == answer(refused.id);
     (met_by_three && departs).then_some(Departure::RefusedId)
@@ -185,6 +188,12 @@ pub fn is_at_cut(departure: Departure, at: u64, rust: &RecoveredBy) -> bool {
         }
         _ => false,
     }
+}
+
+/// The departure for the id that the Rust hands out after a restart: one past the last stored id, by which alone its
+/// recovery goes on, though that one was handed out before.
+pub fn of_restart(stored: u64, unused: u64, rust: u64) -> Option<Departure> {
+    (rust == stored + 1 && rust < unused).then_some(Departure::UsedId)
 }
 
 /// A departure names its cause and nothing else: answers that no cause explains stay without a name.
@@ -294,14 +303,14 @@ mod tests {
         assert!(said.starts_with("the library's pages"), "{said}");
     }
 
-    const BEFORE: State = State { length: 1_024, last: 4, next: 12 };
+    const BEFORE: Numbers = Numbers { length: 1_024, last: 4, next: 12 };
 
     fn batch_of<const N: usize>(entries: [(u64, usize); N]) -> [Entry; N] {
         entries.map(|(id, length)| Entry { id, data: vec![0; length] })
     }
 
     fn answered(number: u64, length: u64, last: u64, next: u64) -> PushedBy {
-        PushedBy::Answered { number, state: State { length, last, next } }
+        PushedBy::Answered { number, state: Numbers { length, last, next } }
     }
 
     /// Whether answers to a push of so many entries have a name.
@@ -356,16 +365,16 @@ mod tests {
     fn after_a_refused_entry_nothing_else_may_differ() {
         let batch = batch_of([(5, 0), (6, TOO_LARGE)]);
         // The Rust has other numbers than we have before the push.
-        let said_of = |change: &dyn Fn(&mut State)| {
+        let said_of = |change: &dyn Fn(&mut Numbers)| {
             let (mut pair, mut tally) = (dense_log(), Tally::default());
-            let mut state = pair.state();
+            let mut state = pair.ours.numbers();
             change(&mut state);
             pair.rust.set(state);
-            caught(|| pair.push(&batch, &mut tally)).map(|answer| (answer, pair.rust.numbers() == pair.state()))
+            caught(|| pair.push(&batch, &mut tally)).map(|answer| (answer, pair.rust.numbers() == pair.ours.numbers()))
         };
         // Afterwards it has ours again.
         assert_eq!(said_of(&|_| ()), Ok((answered(3, 5_120, 6, 5), true)));
-        let changes: [&dyn Fn(&mut State); 4] =
+        let changes: [&dyn Fn(&mut Numbers); 4] =
             [&|state| state.length += PAGE, &|state| state.next += 1, &|state| state.last = 5, &|state| state.last = 6];
         for change in changes {
             let said = said_of(change).unwrap_err();
@@ -402,7 +411,7 @@ mod tests {
     }
 
     fn at(length: u64, last: u64, file: u64) -> RecoveredBy {
-        RecoveredBy::At { state: State { length, last, next: last + 1 }, file }
+        RecoveredBy::At { state: Numbers { length, last, next: last + 1 }, file }
     }
 
     fn cut_said(cut: u64, ours: &RecoveredBy, rust: &RecoveredBy) -> Result<u64, String> {
@@ -434,6 +443,16 @@ mod tests {
             let said = cut_said(cut, &left, &end_of_file(cut / PAGE * PAGE)).unwrap_err();
             assert!(said.contains("the Rust's recovery"), "{said}");
         }
+    }
+
+    #[test]
+    fn any_other_id_after_a_restart_has_no_rule() {
+        // 4 is stored, 5 and 6 were handed out.
+        for id in 0..9 {
+            assert_eq!(of_restart(4, 7, id).is_some(), id == 5, "{id}");
+        }
+        // Nothing was dropped: 5 is new.
+        assert_eq!(of_restart(4, 5, 5), None);
     }
 
     /// A library that answers as the Rust does, or as one without the change did, is not let through.

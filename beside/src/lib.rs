@@ -14,7 +14,7 @@ pub mod tally;
 
 use std::ops::Bound;
 
-pub use awirbesh::State;
+use awirbesh::State;
 pub use departures::Departure;
 pub use pair::Pair;
 pub use tally::Tally;
@@ -23,6 +23,24 @@ pub const PAGE: u64 = 1024;
 
 /// Bytes of data that refusal 3 meets: with the id they are 2^24. One less is written, one more is refused with 16.
 pub const TOO_LARGE: usize = (1 << 24) - 8;
+
+/// The numbers of a state that both sides have. The Rust has no ceiling: ours is tested where the library answers it.
+#[derive(Clone, Copy, Debug, PartialEq, Eq)]
+pub struct Numbers {
+    pub length: u64,
+    pub last: u64,
+    pub next: u64,
+}
+
+impl Numbers {
+    pub const FRESH: Numbers = Numbers { length: 0, last: 0, next: 1 };
+}
+
+impl From<State> for Numbers {
+    fn from(State { length, last, next, .. }: State) -> Numbers {
+        Numbers { length, last, next }
+    }
+}
 
 /// An entry to push.
 #[derive(Clone, Debug, PartialEq, Eq)]
@@ -67,7 +85,7 @@ pub enum Scanned {
 /// A push: the state that it found, its batch, and how many of the entries it wrote.
 #[derive(Clone, Copy)]
 pub struct Push<'a> {
-    pub before: State,
+    pub before: Numbers,
     pub batch: &'a [Entry],
     pub count: usize,
 }
@@ -83,9 +101,9 @@ impl<'a> Push<'a> {
     }
 
     /// What the rules say of the state: length and last written move by the written entries alone (docs/RULES.md 4.3).
-    pub fn state_after(&self) -> State {
+    pub fn state_after(&self) -> Numbers {
         let pages: u64 = self.written().iter().map(layout::count).sum();
-        State {
+        Numbers {
             length: self.before.length + pages * PAGE,
             last: self.written().last().map_or(self.before.last, |entry| entry.id),
             next: self.before.next,
@@ -96,7 +114,7 @@ impl<'a> Push<'a> {
 /// What a push did, on either side: 0 or the refusal's number, and the state after it.
 #[derive(Clone, Debug, PartialEq, Eq)]
 pub enum PushedBy {
-    Answered { number: u64, state: State },
+    Answered { number: u64, state: Numbers },
     Panicked(String),
 }
 
@@ -105,7 +123,7 @@ pub enum PushedBy {
 pub enum RecoveredBy {
     /// The state, and the bytes that the file has after it.
     At {
-        state: State,
+        state: Numbers,
         file: u64,
     },
     Refused(String),

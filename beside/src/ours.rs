@@ -1,7 +1,7 @@
 //! The proved library's side: a store, a state, and a call of the archive for each question.
 use awirbesh::{ffi, lent, Look, Refusal, State, Step};
 
-use crate::{Entry, Ids, Looked, PushedBy, RecoveredBy, Scanned, PAGE};
+use crate::{Entry, Ids, Looked, Numbers, PushedBy, RecoveredBy, Scanned, PAGE};
 
 #[derive(Clone)]
 pub struct Ours {
@@ -59,6 +59,10 @@ impl Ours {
         Ours { store: vec![0xEE; bytes], state: State::fresh(), out: vec![0; 1 << 15] }
     }
 
+    pub fn numbers(&self) -> Numbers {
+        self.state.into()
+    }
+
     pub fn bytes(&self) -> &[u8] {
         &self.store[..self.state.length as usize]
     }
@@ -90,19 +94,22 @@ impl Ours {
         }
         let ids: Vec<u64> = batch.iter().map(|entry| entry.id).collect();
         let pushed = lent::push(&mut self.store, self.state, &ids, &ends, &data);
+        assert_eq!(pushed.state.ceiling, self.state.ceiling, "a push moves no ceiling");
         self.state = pushed.state;
         let number = pushed.refusal.map_or(0, Refusal::number);
-        (PushedBy::Answered { number, state: pushed.state }, pushed.written)
+        (PushedBy::Answered { number, state: self.numbers() }, pushed.written)
     }
 }
 
-/// The library's recovery of these bytes, and the length that its caller cuts the file to.
+/// The library's recovery of these bytes with no ceiling stored, as the Rust has none, and the length that its caller
+/// cuts the file to.
 pub fn recover(bytes: &[u8]) -> RecoveredBy {
-    match lent::recover(bytes, bytes.len() as u64) {
+    match lent::recover(bytes, bytes.len() as u64, 0) {
         Ok(r) => {
             // So the length says how much of what is gone is excess, and how much was dropped.
             assert!(r.excess < PAGE, "an excess of {}", r.excess);
-            RecoveredBy::At { state: r.state, file: bytes.len() as u64 - r.excess - r.dropped * PAGE }
+            assert_eq!(r.state.ceiling, r.state.next, "no id before the ceiling is raised");
+            RecoveredBy::At { state: r.state.into(), file: bytes.len() as u64 - r.excess - r.dropped * PAGE }
         }
         Err(refusal) => RecoveredBy::Refused(said(refusal)),
     }

@@ -1,10 +1,10 @@
 //! One log on both sides, and the entries that it really has.
 use std::ops::{Bound, RangeBounds};
 
-use awirbesh::lent;
+use awirbesh::{lent, State};
 
 use crate::{departures, layout, ours::Ours, rust::Rust};
-use crate::{Departure, Entry, Held, Ids, Looked, Push, PushedBy, RecoveredBy, Scanned, State, Tally, PAGE};
+use crate::{Departure, Entry, Held, Ids, Looked, Numbers, Push, PushedBy, RecoveredBy, Scanned, Tally, PAGE};
 
 pub struct Pair {
     pub ours: Ours,
@@ -17,14 +17,14 @@ pub struct Pair {
 impl Pair {
     pub fn with_capacity(pages: u64) -> Pair {
         let ours = Ours::with_capacity((pages * PAGE) as usize);
-        let rust = Rust::of(Vec::new(), ours.state);
+        let rust = Rust::of(Vec::new(), ours.numbers());
         Pair { ours, rust, held: Vec::new(), walk_back: Vec::new() }
     }
 
     pub fn copy(&self) -> Pair {
         Pair {
             ours: self.ours.clone(),
-            rust: Rust::of(self.rust.file.bytes.clone(), self.ours.state),
+            rust: Rust::of(self.rust.file.bytes.clone(), self.ours.numbers()),
             held: self.held.clone(),
             walk_back: self.walk_back.clone(),
         }
@@ -53,7 +53,7 @@ impl Pair {
 
     pub fn set_next(&mut self, next: u64) {
         self.ours.state.next = next;
-        self.rust.set(self.ours.state);
+        self.rust.set(self.ours.numbers());
     }
 
     /// A page with mark 0 after the last entry, which neither side writes but both must read past.
@@ -64,14 +64,14 @@ impl Pair {
         page[0] = 0;
         self.rust.file.bytes.extend_from_slice(page);
         self.ours.state.length += PAGE;
-        self.rust.set(self.ours.state);
+        self.rust.set(self.ours.numbers());
         self.walk_back.push(self.held.len() - 1);
     }
 
     /// Pushes a batch on both sides and compares the refusal, the count, the state and every byte; the Rust's answer.
     pub fn push(&mut self, batch: &[Entry], tally: &mut Tally) -> PushedBy {
         let (store, file) = (self.ours.store.clone(), self.rust.file.bytes.clone());
-        let before = self.ours.state;
+        let before = self.ours.numbers();
         let from = before.length as usize;
         let (by_ours, count) = self.ours.push(batch);
         let by_rust = self.rust.push(batch);
@@ -234,8 +234,8 @@ impl Pair {
     pub fn compare_recovery(&mut self, excess: &[u8], tally: &mut Tally) {
         let truth = RecoveredBy::At {
             state: match self.held.last() {
-                None => State { length: 0, last: 0, next: 1 },
-                Some(held) => State { length: self.state().length, last: held.id, next: held.id + 1 },
+                None => Numbers::FRESH,
+                Some(held) => Numbers { length: self.state().length, last: held.id, next: held.id + 1 },
             },
             file: self.state().length,
         };
@@ -247,6 +247,43 @@ impl Pair {
         tally.compared("recoveries");
     }
 
+    /// So many ids are taken on both sides and dropped; then both open their logs again, the library with the ceiling
+    /// that it was raised to for these ids. Which id each side hands out next, ours and then the Rust's.
+    pub fn restart(&self, dropped: u64) -> (u64, u64) {
+        let (mut ours, rust) = (self.ours.state, Rust::of(Vec::new(), self.ours.numbers()));
+        ours.ceiling = ours.next;
+        if dropped > 0 {
+            ours.raise(dropped).expect("a ceiling for the ids");
+        }
+        for _ in 0..dropped {
+            assert_eq!(ours.take(), Ok(rust.take()), "ids taken before the restart of {}", self.words());
+        }
+        let mut again = lent::recover(self.ours.bytes(), ours.length, ours.ceiling).expect("a sound log").state;
+        assert_eq!(again.ceiling, again.next, "no id before the ceiling is raised");
+        again.raise(1).expect("a ceiling for an id");
+        let RecoveredBy::At { state, .. } = crate::rust::recover(&self.rust.file.bytes) else {
+            panic!("the Rust's recovery of {}", self.words())
+        };
+        (again.take().expect("an id"), Rust::of(Vec::new(), state).take())
+    }
+
+    /// Compares which id comes after a restart: ours is the first that was never handed out, and the Rust's is the
+    /// same, or departs where an id was dropped after the last stored one. Not for the last ids of all.
+    pub fn compare_restart(&self, dropped: u64, tally: &mut Tally) {
+        let (stored, unused) = (self.held.last().map_or(0, |held| held.id), self.state().next + dropped);
+        let (by_ours, by_rust) = self.restart(dropped);
+        let input = || format!("{}; {dropped} taken and dropped", self.words());
+        assert_eq!(by_ours, unused, "the library's id after a restart of {}", input());
+        tally.compared("restarts");
+        if by_rust == unused {
+            return;
+        }
+        match departures::of_restart(stored, unused, by_rust) {
+            Some(departure) => tally.name(departure, (self.pages(), unused, self.state().next), input),
+            None => panic!("no departure names it: the Rust's id {by_rust} after a restart of {}", input()),
+        }
+    }
+
     /// The entry of which a cut at a byte leaves the start, but not all pages.
     pub fn cut_entry(&self, at: u64) -> Option<&Held> {
         self.held.iter().find(|held| (held.page + 1) * PAGE <= at && at < (held.page + held.pages) * PAGE)
@@ -254,11 +291,11 @@ impl Pair {
 
     /// What the rules say of the log's first bytes: the entries that end before the cut, and the pages before it but
     /// for those of a cut entry (docs/RULES.md 11.4).
-    pub fn left_by(&self, at: u64) -> State {
+    pub fn left_by(&self, at: u64) -> Numbers {
         let length = self.cut_entry(at).map_or(at - at % PAGE, |held| held.page * PAGE);
         let whole = |held: &&Held| (held.page + held.pages) * PAGE <= at;
         let last = self.held.iter().take_while(whole).last().map_or(0, |held| held.id);
-        State { length, last, next: last + 1 }
+        Numbers { length, last, next: last + 1 }
     }
 
     /// Recovers the first bytes of the log on both sides, as a crash leaves them, each from its own pages and from the
@@ -307,7 +344,7 @@ impl Pair {
     /// goes on. Up to that entry the two agree; then the Rust is set back to it, and what follows is compared again.
     pub fn compare_without_room(&mut self, batch: &[Entry], tally: &mut Tally) {
         let (store, file) = (self.ours.store.clone(), self.rust.file.bytes.clone());
-        let before = self.ours.state;
+        let before = self.ours.numbers();
         let from = before.length as usize;
         let (by_ours, count) = self.ours.push(batch);
         let by_rust = self.rust.push(batch);
@@ -333,7 +370,7 @@ impl Pair {
     /// Cuts the Rust's file to our length and gives it our state.
     fn set_rust_back(&mut self) {
         self.rust.file.bytes.truncate(self.ours.state.length as usize);
-        self.rust.set(self.ours.state);
+        self.rust.set(self.ours.numbers());
     }
 }
 

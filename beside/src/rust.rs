@@ -6,14 +6,13 @@ use std::{
     sync::{Once, OnceLock},
 };
 
-use awirbesh::State;
 use nebari::{
     io::{DiskFile, DiskManager, MemoryFile},
     transaction::{log, state, TransactionLog},
     Context, Error, ErrorKind,
 };
 
-use crate::{Entry, Ids, Looked, PushedBy, RecoveredBy, Scanned};
+use crate::{Entry, Ids, Looked, Numbers, PushedBy, RecoveredBy, Scanned};
 
 thread_local!(static QUIET: Cell<bool> = const { Cell::new(false) });
 
@@ -47,18 +46,22 @@ pub struct Rust {
 }
 
 impl Rust {
-    pub fn of(bytes: Vec<u8>, numbers: State) -> Rust {
+    pub fn of(bytes: Vec<u8>, numbers: Numbers) -> Rust {
         let state = state::probe::state(numbers.length, numbers.last, numbers.next);
         Rust { file: MemoryFile::of(bytes), state }
     }
 
-    pub fn numbers(&self) -> State {
+    pub fn numbers(&self) -> Numbers {
         let (length, last, next) = state::probe::numbers(&self.state);
-        State { length, last, next }
+        Numbers { length, last, next }
     }
 
-    pub fn set(&self, numbers: State) {
+    pub fn set(&self, numbers: Numbers) {
         state::probe::set(&self.state, numbers.length, numbers.last, numbers.next);
+    }
+
+    pub fn take(&self) -> u64 {
+        self.state.new_transaction(std::iter::empty::<&[u8]>()).id
     }
 
     pub fn lookup(&mut self, id: u64) -> Looked {
@@ -143,7 +146,7 @@ pub fn recover(bytes: &[u8]) -> RecoveredBy {
     match ran {
         Ok(Ok(())) => {
             let (length, last, next) = state::probe::numbers(&state);
-            RecoveredBy::At { state: State { length, last, next }, file }
+            RecoveredBy::At { state: Numbers { length, last, next }, file }
         }
         Ok(Err(error)) => RecoveredBy::Refused(format!("{}, file of {file} bytes", said(error))),
         Err(text) => RecoveredBy::Panicked { text, file },

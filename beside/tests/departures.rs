@@ -1,6 +1,7 @@
 //! Each entry of docs/DIFFERENCES.md at its smallest input: what the Rust does in this build, and what we do.
 use awirbesh::{lent, IdSequence, Look, Refusal, State};
-use beside::{ours, rust, Departure, Entry, Looked, Pair, PushedBy, RecoveredBy, Scanned, Tally, PAGE, TOO_LARGE};
+use beside::rust::{self, Rust};
+use beside::{ours, Departure, Entry, Looked, Numbers, Pair, PushedBy, RecoveredBy, Scanned, Tally, PAGE, TOO_LARGE};
 use nebari::transaction::{manager::probe::Sequence, state::probe};
 
 const CHECKED: bool = cfg!(debug_assertions);
@@ -138,7 +139,7 @@ fn the_id_of_a_refused_entry() {
     let entry = |id: u64, length: usize| [Entry { id, data: vec![0x61; length] }];
     let (large, small) = (entry(1, TOO_LARGE), entry(1, 0));
     let answered = |number: u64, length: u64, last: u64| {
-        let state = State { length, last, next: 1 };
+        let state = Numbers { length, last, next: 1 };
         PushedBy::Answered { number, state }
     };
 
@@ -171,14 +172,14 @@ fn the_id_of_a_refused_entry() {
 }
 
 /// A recovery of the first bytes of a log, after ours was found to be what the rules say: the Rust's answer.
-fn recovered(pair: &Pair, at: u64, left: State) -> RecoveredBy {
+fn recovered(pair: &Pair, at: u64, left: Numbers) -> RecoveredBy {
     let bytes = &pair.ours.bytes()[..at as usize];
     assert_eq!(ours::recover(bytes), RecoveredBy::At { state: left, file: left.length });
     assert_eq!(pair.left_by(at), left);
     rust::recover(bytes)
 }
 
-const FRESH: State = State { length: 0, last: 0, next: 1 };
+const FRESH: Numbers = Numbers::FRESH;
 
 /// The last entry lost pages in a crash: the Rust cannot open the log any more, the library drops the entry.
 #[test]
@@ -191,14 +192,14 @@ fn an_entry_that_was_cut_short() {
     assert_eq!(recovered(&smallest, 1_024, FRESH), eof(1_024));
     // All but one byte is there, and a part page is cut off before it fails.
     assert_eq!(recovered(&smallest, 2_047, FRESH), eof(1_024));
-    let whole = State { length: 2_048, last: 1, next: 2 };
+    let whole = Numbers { length: 2_048, last: 1, next: 2 };
     assert_eq!(recovered(&smallest, 2_048, whole), RecoveredBy::At { state: whole, file: 2_048 });
-    let r = lent::recover(smallest.ours.bytes(), 2_047).unwrap();
-    assert_eq!((r.state, r.excess, r.dropped), (FRESH, 1_023, 1));
+    let r = lent::recover(smallest.ours.bytes(), 2_047, 0).unwrap();
+    assert_eq!((r.state, r.excess, r.dropped), (State::fresh(), 1_023, 1));
 
     // The entry before it, and an idle page, are what is left here.
     let longer = log_of(&[(1, 8), (0, 0), (2, 3_000)], 3);
-    let left = State { length: 2_048, last: 1, next: 2 };
+    let left = Numbers { length: 2_048, last: 1, next: 2 };
     for (at, file) in [(3_072, 3_072), (4_000, 3_072), (4_096, 4_096), (5_119, 4_096)] {
         assert_eq!(recovered(&longer, at, left), eof(file));
     }
@@ -231,9 +232,48 @@ fn less_than_a_page() {
             other => panic!("{other:?}"),
         }
     }
-    assert_eq!(lent::recover(&[1], 1).unwrap().excess, 1);
+    assert_eq!(lent::recover(&[1], 1, 0).unwrap().excess, 1);
     // No byte at all is a new log on both sides.
     assert_eq!(recovered(&pair, 0, FRESH), RecoveredBy::At { state: FRESH, file: 0 });
+}
+
+/// The Rust's recovery knows the last stored id alone, so an id that was dropped after it is handed out again; the
+/// library's is given the ceiling, below which every id that was handed out lies.
+#[test]
+fn a_used_id_comes_again_after_a_restart() {
+    // The smallest: nothing is stored, and 1 was handed out. Where nothing was, both sides go on with 1.
+    let empty = Pair::with_capacity(0);
+    assert_eq!((empty.restart(1), empty.restart(0)), ((2, 1), (1, 1)));
+    // 9 was a what-if's.
+    let dense: Vec<(u64, usize)> = (1..=8).map(|id| (id, 8)).collect();
+    let mut tally = Tally::default();
+    let mut pair = log_of(&dense, 9);
+    assert_eq!(pair.restart(1), (10, 9));
+    pair.compare_restart(0, &mut tally);
+    assert_eq!(tally.times(Departure::UsedId), 0);
+    pair.compare_restart(1, &mut tally);
+    assert_eq!(tally.times(Departure::UsedId), 1);
+
+    // The build that is handed 9 in its place pushes it, and whoever dropped 9 then finds the build's data.
+    let real = [Entry { id: 9, data: b"real".to_vec() }];
+    let State { length, .. } = pair.state();
+    let mut rust = Rust::of(pair.rust.file.bytes.clone(), Numbers { length, last: 8, next: 9 });
+    assert_eq!(rust::recover(&rust.file.bytes), RecoveredBy::At { state: rust.numbers(), file: length });
+    assert_eq!(rust.take(), 9);
+    let written = Numbers { length: length + PAGE, last: 9, next: 10 };
+    assert_eq!(rust.push(&real), PushedBy::Answered { number: 0, state: written });
+    assert!(matches!(rust.lookup(9), Looked::Found { data, .. } if data == b"real"));
+    // Here the build is handed 10, and 9 is absent for good.
+    pair.ours.state = lent::recover(pair.ours.bytes(), length, 10).unwrap().state;
+    assert_eq!(pair.ours.state.take(), Err(Refusal::CeilingReached));
+    pair.ours.state.raise(1).unwrap();
+    assert_eq!(pair.ours.state.take(), Ok(10));
+    assert_eq!(pair.ours.lookup(9), Looked::Absent { position: length });
+    pair.ours.push(&[Entry { id: 10, ..real[0].clone() }]);
+    assert_eq!(pair.ours.lookup(9), Looked::Absent { position: length });
+    assert!(matches!(pair.ours.lookup(10), Looked::Found { position, .. } if position == length));
+    // With no ceiling stored the library does as the Rust does.
+    assert_eq!(lent::recover(&pair.ours.bytes()[..length as usize], length, 0).unwrap().state.next, 9);
 }
 
 #[test]
@@ -241,12 +281,12 @@ fn the_last_id_recovered() {
     let mut pair = Pair::with_capacity(1);
     pair.push(&[Entry { id: u64::MAX, data: Vec::new() }], &mut Tally::default());
     let bytes = pair.ours.bytes().to_vec();
-    assert_eq!(lent::recover(&bytes, PAGE), Err(Refusal::IdsUsedUp));
+    assert_eq!(lent::recover(&bytes, PAGE, 0), Err(Refusal::IdsUsedUp));
     match rust::recover(&bytes) {
         RecoveredBy::Panicked { text, .. } if CHECKED => assert_eq!(text, "attempt to add with overflow"),
         // It finds the log uninitialized: next is 0, which stands for that.
         RecoveredBy::At { state, .. } if !CHECKED => {
-            assert_eq!(state, State { length: PAGE, last: u64::MAX, next: 0 });
+            assert_eq!(state, Numbers { length: PAGE, last: u64::MAX, next: 0 });
         }
         other => panic!("{other:?}"),
     }
@@ -254,7 +294,7 @@ fn the_last_id_recovered() {
 
 #[test]
 fn the_last_id_taken() {
-    let mut ours = State { length: 0, last: 0, next: u64::MAX };
+    let mut ours = State { length: 0, last: 0, next: u64::MAX, ceiling: u64::MAX };
     assert_eq!(ours.take(), Err(Refusal::IdsUsedUp));
     let rust = probe::state(0, 0, u64::MAX);
     assert_eq!(rust.new_transaction(std::iter::empty::<&[u8]>()).id, u64::MAX);
@@ -282,9 +322,8 @@ fn a_note_outside_the_window() {
 fn a_store_has_an_end() {
     let mut pair = Pair::with_capacity(0);
     let entry = [Entry { id: 1, data: Vec::new() }];
-    let fresh = State { length: 0, last: 0, next: 1 };
-    assert_eq!(pair.ours.push(&entry), (PushedBy::Answered { number: 4, state: fresh }, 0));
-    let written = PushedBy::Answered { number: 0, state: State { length: PAGE, last: 1, next: 1 } };
+    assert_eq!(pair.ours.push(&entry), (PushedBy::Answered { number: 4, state: FRESH }, 0));
+    let written = PushedBy::Answered { number: 0, state: Numbers { length: PAGE, last: 1, next: 1 } };
     assert_eq!(pair.rust.push(&entry), written);
     // The id is kept: where there is room it is written.
     pair.ours.store.resize(PAGE as usize, 0xEE);
@@ -294,7 +333,7 @@ fn a_store_has_an_end() {
     let (mut pair, mut tally) = (Pair::with_capacity(0), Tally::default());
     pair.compare_without_room(&entry, &mut tally);
     assert_eq!(tally.smallest(Departure::NoRoom), "a store of 0 bytes, push of [(1, 0)]");
-    assert_eq!((pair.state(), pair.rust.numbers()), (fresh, fresh));
+    assert_eq!((pair.ours.numbers(), pair.rust.numbers()), (FRESH, FRESH));
 }
 
 /// Damaged logs: the Rust panics, fails or answers by bytes that are no entry; the library refuses.
@@ -336,7 +375,7 @@ fn an_id_not_below_next_is_absent_on_both_sides() {
 fn bytes_past_the_length() {
     let mut pair = log_of(&[(1, 8), (2, 8)], 3);
     pair.ours.state.length = PAGE;
-    pair.rust.set(pair.ours.state);
+    pair.rust.set(pair.ours.numbers());
     let all = (std::ops::Bound::Unbounded, std::ops::Bound::Unbounded);
     assert_eq!(pair.ours.scan(all), Scanned::Entries(vec![(1, Vec::new())]));
     assert_eq!(pair.rust.scan(all), Scanned::Entries(vec![(1, Vec::new()), (2, Vec::new())]));

@@ -116,6 +116,23 @@ fn every_log_up_to_four_pages_cut() {
     assert_eq!(tally.smallest(Departure::PartPage), "1 (payload 8); next 1; cut at 1");
 }
 
+/// Each log is opened again after none, one and three ids were taken and dropped.
+#[test]
+fn every_restart_of_every_log_up_to_four_pages() {
+    let mut tally = Tally::default();
+    every_log(&Pair::with_capacity(4), 4, &mut tally, &mut |pair, tally| {
+        for_each_next(pair, |pair| {
+            for dropped in [0, 1, 3] {
+                pair.compare_restart(dropped, tally);
+            }
+        });
+    });
+    tally.print("every log up to four pages, opened again");
+    // The id that docs/DIFFERENCES.md gives as the smallest; and each log shows it, but where nothing was dropped.
+    assert_eq!(tally.smallest(Departure::UsedId), "; next 1; 1 taken and dropped");
+    assert_eq!(tally.times(Departure::UsedId), tally.compared["restarts"] / 9 * 8);
+}
+
 /// Every list of up to three entries with payloads about the boundaries, cut into pushes in every way.
 #[test]
 fn every_list_of_up_to_three_entries_in_every_batch() {

@@ -114,7 +114,8 @@ fn takes() {
     let mut tally = Tally::default();
     for _ in 0..1_000 {
         let next = if chance.one_in(3) { u64::MAX - chance.below(4) } else { chance.number() >> chance.below(64) };
-        let mut ours = State { length: 1_024, last: 5, next };
+        // The Rust has no ceiling: under the highest one every id is handed out.
+        let mut ours = State { length: 1_024, last: 5, next, ceiling: u64::MAX };
         let rust = probe::state(1_024, 5, next);
         for _ in 0..5 {
             tally.compared("takes");

@@ -96,6 +96,7 @@ fn some_cut(chance: &mut Chance, pair: &Pair) -> u64 {
 fn random_logs() {
     let mut chance = Chance::new(setting("BESIDE_SEED", 1));
     let mut cuts = Chance::new(!setting("BESIDE_SEED", 1));
+    let mut drops = Chance::new(setting("BESIDE_SEED", 1).rotate_left(32));
     let mut tally = Tally::default();
     for number in 0..setting("BESIDE_LOGS", 600) {
         // The narrower of those apart never overflow the Rust's product, the widest nearly always do.
@@ -119,11 +120,12 @@ fn random_logs() {
             let at = some_cut(&mut cuts, &pair);
             pair.compare_cut(at, &mut tally);
         }
+        pair.compare_restart(drops.below(4), &mut tally);
         tally.compared("logs");
     }
     tally.print("random logs");
-    use Departure::{AbsentPosition, IdlePages, LaterPages, PartPage, StaleFilling, TornEntry};
-    for departure in [LaterPages, IdlePages, AbsentPosition, StaleFilling, TornEntry, PartPage] {
+    use Departure::{AbsentPosition, IdlePages, LaterPages, PartPage, StaleFilling, TornEntry, UsedId};
+    for departure in [LaterPages, IdlePages, AbsentPosition, StaleFilling, TornEntry, PartPage, UsedId] {
         assert!(tally.times(departure) > 0, "{departure:?} did not come up");
     }
 }

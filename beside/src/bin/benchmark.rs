@@ -1,5 +1,5 @@
 //! Times the library and nebari's Rust on the same inputs, in one run: `scripts/benchmark` prints the table of
-//! docs/BENCHMARK.md; with --pushes or --recoveries it prints the rows of those alone. Build it with --release.
+//! docs/BENCHMARK.md; with --pushes, --recoveries or --takes it prints those rows alone. Build it with --release.
 //!
 //! Both sides work in memory: the Rust on a file that is a plain vector, reached through `&mut dyn File` as nebari
 //! reaches its files; ours through the safe functions of the host crate. The two take turns, and the least time of all
@@ -7,7 +7,7 @@
 use std::{hint::black_box, ops::Bound, time::Instant};
 
 use awirbesh::{ffi, lent, IdSequence, Look, State, Step};
-use beside::{chance::Chance, rust::Rust};
+use beside::{chance::Chance, rust::Rust, Numbers};
 use nebari::{
     io::MemoryFile,
     transaction::{
@@ -67,7 +67,7 @@ fn log_of(ids: Vec<u64>, payload: usize, next: u64) -> Log {
         state = pushed.state;
     }
     state.next = next;
-    let rust = Rust::of(store[..state.length as usize].to_vec(), state);
+    let rust = Rust::of(store[..state.length as usize].to_vec(), state.into());
     Log { store, state, rust, ids }
 }
 
@@ -189,7 +189,7 @@ fn scans() {
         [("10,000 one-page entries", 10_000, SMALL), ("2,000 entries of payload 3,000", 2_000, 3_000)]
     {
         let log = log_of(dense(count), payload, count + 1);
-        let mut rust = Rust::of(log.store.clone(), log.state);
+        let mut rust = Rust::of(log.store.clone(), log.state.into());
         let all = (Bound::Unbounded, Bound::Unbounded);
         assert_eq!(scan_ours(&log, ffi::Range::of(&all), &mut out), scan_rust(&mut rust, all));
         let timed = times(
@@ -205,7 +205,7 @@ fn scans() {
     }
     // The Rust goes on to the log's end where the caller does not stop it; so do we, by the steps.
     let log = log_of(dense(10_000), SMALL, 10_001);
-    let mut rust = Rust::of(log.store.clone(), log.state);
+    let mut rust = Rust::of(log.store.clone(), log.state.into());
     let ids = (Bound::Included(9_901), Bound::Excluded(9_911));
     assert_eq!(scan_ours(&log, ffi::Range::of(&ids), &mut out), scan_rust(&mut rust, ids));
     let timed = times(
@@ -232,7 +232,7 @@ fn pushes(what: &str, entries: usize, length: usize, batches: usize) {
     let bytes = batches * entries * pages * PAGE;
     let mut store = vec![0; bytes];
     let mut last = 0;
-    let mut rust = Rust::of(Vec::with_capacity(bytes), State::fresh());
+    let mut rust = Rust::of(Vec::with_capacity(bytes), Numbers::FRESH);
     rust.file.bytes.resize(bytes, 0);
     let mut rust_last = 0;
     let (mut by_rust, mut by_ours) = (f64::MAX, f64::MAX);
@@ -250,7 +250,7 @@ fn pushes(what: &str, entries: usize, length: usize, batches: usize) {
             .collect();
         rust.file.bytes.clear();
         let numbers = rust.numbers();
-        rust.set(State { length: 0, ..numbers });
+        rust.set(Numbers { length: 0, ..numbers });
         let start = Instant::now();
         for batch in made {
             black_box(probe::push(&mut rust.file, &rust.state, batch).is_ok());
@@ -260,7 +260,7 @@ fn pushes(what: &str, entries: usize, length: usize, batches: usize) {
 
         let ids_of = |batch: usize| (1..=entries).map(move |i| last + (batch * entries + i) as u64).collect();
         let made: Vec<Vec<u64>> = (0..batches).map(ids_of).collect();
-        let mut state = State { length: 0, last, next: 1 };
+        let mut state = State { last, ..State::fresh() };
         let start = Instant::now();
         for ids in &made {
             state = black_box(lent::push(&mut store, state, ids, &ends, &data)).state;
@@ -306,7 +306,7 @@ fn recoveries() {
             },
             || {
                 for _ in 0..1_000 {
-                    black_box(lent::recover(black_box(&log.store), length).is_ok());
+                    black_box(lent::recover(black_box(&log.store), length, 0).is_ok());
                 }
             },
         );
@@ -345,9 +345,10 @@ fn torn_recovery() {
     let data = Chance::new(3).bytes(17_000);
     let pushed = lent::push(&mut store, state, &[10_001], &[data.len() as u64], &data);
     let cut = pushed.state.length - PAGE as u64;
-    assert_eq!(lent::recover(&store, cut), Ok(lent::Recovered { state, excess: 0, dropped: 16 }));
+    let left = State { ceiling: state.next, ..state };
+    assert_eq!(lent::recover(&store, cut, 0), Ok(lent::Recovered { state: left, excess: 0, dropped: 16 }));
     assert!(fails_in_rust(&store[..cut as usize]));
-    let ours = least(1_000, || lent::recover(black_box(&store), cut).is_ok());
+    let ours = least(1_000, || lent::recover(black_box(&store), cut, 0).is_ok());
     println!("| recovery: 10,000 one-page entries and 16 pages of one of 17 | | {ours:.1} | | {ERROR} |");
 }
 
@@ -357,16 +358,42 @@ fn cut_starts(what: &str, pages: usize) {
     for page in store.chunks_mut(PAGE) {
         page[..4].copy_from_slice(&[1, 0, 4, 0]);
     }
-    let (length, fresh) = (store.len() as u64, State::fresh());
-    assert_eq!(lent::recover(&store, length), Ok(lent::Recovered { state: fresh, excess: 0, dropped: pages as u64 }));
+    let length = store.len() as u64;
+    let emptied = lent::Recovered { state: State::fresh(), excess: 0, dropped: pages as u64 };
+    assert_eq!(lent::recover(&store, length, 0), Ok(emptied));
     assert!(fails_in_rust(&store));
     let count = 200_000 / pages;
-    let ours = least(count, || lent::recover(black_box(&store), length).is_ok()) / pages as f64;
+    let ours = least(count, || lent::recover(black_box(&store), length, 0).is_ok()) / pages as f64;
     let number = |page: &[u8]| u32::from_be_bytes([page[0], page[1], page[2], page[3]]);
     let read = || black_box(&store).chunks(PAGE).rev().map(number).fold(0, u32::wrapping_add);
     let plain = least(count, read) / pages as f64;
     let note = format!("{ERROR}; to read the same bytes and no more: {plain:.1}");
     println!("| recovery, a page: a tail of {what} cut starts | | {ours:.1} | | {note} |");
+}
+
+/// An id costs us a raise's part too: the ceiling is raised once for each 1,024 of them, and nothing is stored.
+fn takes() {
+    const BLOCK: u64 = 1_024;
+    const BLOCKS: u64 = 16;
+    let (rust, mut state) = (Rust::of(Vec::new(), Numbers::FRESH), State::fresh());
+    let timed = times(
+        (BLOCK * BLOCKS) as usize,
+        || {
+            for _ in 0..BLOCK * BLOCKS {
+                black_box(rust.take());
+            }
+        },
+        || {
+            for _ in 0..BLOCKS {
+                state.raise(BLOCK).unwrap();
+                for _ in 0..BLOCK {
+                    black_box(state.take().unwrap());
+                }
+            }
+        },
+    );
+    assert_eq!(state.next, rust.numbers().next);
+    fine_row("take, our ceiling raised every 1,024 ids", timed);
 }
 
 fn notes() {
@@ -415,12 +442,14 @@ fn main() {
     match only.as_deref() {
         Some("--pushes") => return all_pushes(),
         Some("--recoveries") => return recoveries(),
+        Some("--takes") => return takes(),
         _ => {}
     }
     all_lookups();
     scans();
     all_pushes();
     recoveries();
+    takes();
     notes();
     checks();
 }
