@@ -221,10 +221,10 @@ typedef struct {
  * written to. Never moves next or the ceiling. After an entry's data come zeros to its last page's end: its pages
  * depend on its id and data alone, and hold nothing of the entries before it or of what the store held (rules 1, 11).
  *
- * An entry that 3 or 4 refuses keeps its id, as those after it do, until the log is recovered (rules 12): push it
- * again with the state answered and less data, or after 4 with a longer store that begins with the same bytes. After
- * w > 0 entries were written the rest of the batch is ids + w, the data from ends[w - 1] on, and the ends from w on,
- * each less ends[w - 1], since ends count from where `data` begins. */
+ * An entry that 3 or 4 refuses keeps its id, as those after it do, also when the log is recovered with the ceiling that
+ * was stored (rules 12): push it again with the state answered and less data, or after 4 with a longer store that
+ * begins with the same bytes. After w > 0 entries were written the rest of the batch is ids + w, the data from
+ * ends[w - 1] on, and the ends from w on, each less ends[w - 1], since ends count from where `data` begins. */
 awirbesh_pushed awirbesh_push(uint8_t *store, size_t store_len, awirbesh_state state, const uint64_t *ids,
                               size_t ids_len, const uint64_t *ends, size_t ends_len, const uint8_t *data,
                               size_t data_len);
