@@ -5,8 +5,8 @@
  * byte outside stops the program; what is left of the room on the other side holds a pattern that is compared.
  *
  * bad_input SEED CALLS: prints how often each function gave each answer, and fails on a wrong answer, on a
- * changed byte, and where some answer that the rules have, some kind of torn log, or a stored ceiling on some side of
- * the last id, did not come up at all.
+ * changed byte, and where some answer that the rules have, some kind of torn log, or a stored ceiling above, at or
+ * below the last id + 1, did not come up at all.
  */
 #include "awirbesh.h"
 #include "model.h"
@@ -378,7 +378,7 @@ static uint64_t some_id(awirbesh_state state)
 /* ---- the calls, each held to the model ---- */
 
 /* Of the recoveries that gave a state, in ABOVE, EQUAL and UNDER the stored ceiling was above, at and below the last id
- * and one. TORN are those that met a cut start first; of these, if they gave a state, TWICE dropped more than one start,
+ * + 1. TORN are those that met a cut start first; of these, if they gave a state, TWICE dropped more than one start,
  * PARTLY an excess too, EMPTIED everything. CUT are those of a sound log that was cut at any byte and lost pages. */
 enum { TAKE, RAISE, CHECK, RECOVER, ABOVE, EQUAL, UNDER, TORN, TWICE, PARTLY, EMPTIED, CUT };
 enum { FIND = CUT + 1, LOOKUP, ABSENT, SCAN, STEP, ENDED, PUSH, AGAIN, NOTE, KINDS };

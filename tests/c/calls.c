@@ -88,6 +88,30 @@ static void ids_are_taken(void)
 
 #define LONGEST_STEP ((uint64_t)1 << 32)
 
+/* Those of rule 13.10. */
+static const struct {
+    awirbesh_state before;
+    uint64_t step;
+    awirbesh_raised expected;
+} raisings[] = {
+    {{0, 0, 1, 1}, 2, {0, {0, 0, 1, 3}}},
+    {{1024, 1, 3, 3}, 1, {0, {1024, 1, 3, 4}}},
+    {{0, 0, 1, 1}, 0, {31, {0, 0, 1, 1}}},
+    {{0, 0, 1, 1}, LONGEST_STEP + 1, {31, {0, 0, 1, 1}}},
+    {{0, 0, 1, UINT64_MAX - 1}, 1, {0, {0, 0, 1, UINT64_MAX}}},
+    {{0, 0, 1, UINT64_MAX - 1}, 2, {31, {0, 0, 1, UINT64_MAX - 1}}},
+};
+
+static void worked_raisings(void)
+{
+    for (size_t i = 0; i < sizeof raisings / sizeof *raisings; i++) {
+        awirbesh_state after = raisings[i].expected.state;
+        awirbesh_raised got = awirbesh_raise(raisings[i].before, raisings[i].step);
+        same("13.10, a raise", got.number, raisings[i].expected.number);
+        same_state("13.10, a raise", got.state, after.length, after.last, after.next, after.ceiling);
+    }
+}
+
 /* Each step by each ceiling, the other numbers being made up: refused by the sum or by the step itself, or added. */
 static void ceilings_are_raised(void)
 {
@@ -695,6 +719,7 @@ typedef struct {
 } torn;
 
 static const torn torn_logs[] = {
+    {"13.7", {{8, 9}, {0, 0}}, 2, 1030, {0, 0, 6, 0, {1024, 9, 10, 10}}},
     /* 1,021 bytes of payload take 2 pages, 2,043 too, 2,044 take 3, 16,777,215 take 16,401 */
     {"a start of two pages alone", {{1021, 1}}, 1, 1024, {0, 0, 0, 1, {0, 0, 1, 1}}},
     {"it and all but a byte of its second", {{1021, 1}, {0, 0}}, 2, 2047, {0, 0, 1023, 1, {0, 0, 1, 1}}},
@@ -866,6 +891,7 @@ static void sequences(void)
 int main(void)
 {
     ids_are_taken();
+    worked_raisings();
     ceilings_are_raised();
     used_ids_stay_used();
     two_entries();

@@ -2,9 +2,10 @@
  *
  * A sound log with idle pages in it, then one push of entries of 1, 2, 3 and 17 pages. It is cut at each byte from its
  * length before the push to its length after it, and at each byte below; beyond the cut the store holds zeros, or bytes
- * that look like starts, or pages of entries of an earlier, longer log. Each time: what recovery answers, every lookup,
- * the sound check, a push that goes on from there, and a second cut, in that push. What must come out is worked out
- * from where each entry's pages end, and from nothing else. And a tail of many cut starts must take one pass. */
+ * that look like starts, or pages of entries of an earlier, longer log. Each time: what recovery answers, with no
+ * stored ceiling or with one; every lookup, the sound check, a push that goes on from there, and a second cut, in that
+ * push. What must come out is worked out from where each entry's pages end and from the ceiling, and from nothing else.
+ * And a tail of many cut starts must take one pass. */
 #include "awirbesh.h"
 
 #include <stdio.h>
@@ -183,8 +184,8 @@ static void go_on(const uint8_t *store, awirbesh_state state, held log, uint64_t
     second = UINT64_MAX;
 }
 
-/* The store holds the whole log's bytes before the cut and others beyond it. With no ceiling stored what is left decides
- * the next id; with the one that was stored before the push the ids that are cut off stay used. */
+/* The store holds the whole log's bytes before the cut and others beyond it. With no ceiling stored what is left
+ * decides the next id; with the one that was stored before the push the ids that are cut off stay used. */
 static void try_cut(const uint8_t *store, const held *log, uint64_t at, const uint8_t *whole, const uint8_t *beyond)
 {
     uint64_t stored = at % 2 ? last_id(log) + 1 : 0, highest = last_id(log) + 8;
