@@ -98,7 +98,7 @@ static void stop(const char *why)
     exit(1);
 }
 
-/* One of the answers that a call may give here. */
+/* The refusals that a call may give here, and what each counts as. */
 static void answers(uint64_t number, uint64_t one, int event, uint64_t other, int other_event)
 {
     if (number != 0 && number != one && number != other)
