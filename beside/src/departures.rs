@@ -455,6 +455,28 @@ mod tests {
         assert_eq!(of_restart(4, 5, 5), None);
     }
 
+    /// A library that hands out a dropped id, or that passes over one more, is not let through.
+    #[test]
+    fn our_id_after_a_restart_is_that_of_the_rules() {
+        // 1 to 4 are stored, 5 and 6 were handed out.
+        let said_of = |ours: u64, rust: u64| {
+            let mut tally = Tally::default();
+            caught(|| dense_log().compare_restarted(2, ours, rust, &mut tally))?;
+            Ok::<u64, String>(tally.times(Departure::UsedId))
+        };
+        assert_eq!((said_of(7, 5), said_of(7, 7)), (Ok(1), Ok(0)));
+        for ours in [0, 1, 4, 5, 6, 8] {
+            for rust in [5, ours] {
+                let said = said_of(ours, rust).unwrap_err();
+                assert!(said.contains("the library's id"), "{said}");
+            }
+        }
+        for rust in [0, 1, 4, 6, 8] {
+            let said = said_of(7, rust).unwrap_err();
+            assert!(said.starts_with("no departure names it"), "{said}");
+        }
+    }
+
     /// A library that answers as the Rust does, or as one without the change did, is not let through.
     #[test]
     fn our_recovery_is_that_of_the_rules() {

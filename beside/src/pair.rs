@@ -267,14 +267,19 @@ impl Pair {
         (again.take().expect("an id"), Rust::of(Vec::new(), state).take())
     }
 
-    /// Compares which id comes after a restart: ours is the first that was never handed out, and the Rust's is the
-    /// same, or departs where an id was dropped after the last stored one. Not for the last ids of all.
+    /// Restarts both sides and compares which id comes then. Not for the last ids of all.
     pub fn compare_restart(&self, dropped: u64, tally: &mut Tally) {
-        let (stored, unused) = (self.held.last().map_or(0, |held| held.id), self.state().next + dropped);
         let (by_ours, by_rust) = self.restart(dropped);
+        self.compare_restarted(dropped, by_ours, by_rust, tally);
+        tally.compared("restarts");
+    }
+
+    /// Compares the ids after a restart: ours must be the first that was never handed out, and the Rust's the same, or
+    /// what the departure says where an id was dropped after the last stored one.
+    pub fn compare_restarted(&self, dropped: u64, by_ours: u64, by_rust: u64, tally: &mut Tally) {
+        let (stored, unused) = (self.held.last().map_or(0, |held| held.id), self.state().next + dropped);
         let input = || format!("{}; {dropped} taken and dropped", self.words());
         assert_eq!(by_ours, unused, "the library's id after a restart of {}", input());
-        tally.compared("restarts");
         if by_rust == unused {
             return;
         }
