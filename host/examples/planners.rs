@@ -1,10 +1,14 @@
 //! Three query planners share one catalog log of the indexes that they really build. A what-if session takes an id
 //! as a build does, and drops it: nothing of it is stored. A build for which the log has no room goes in with the same
-//! id once there is more. Later a planner asks of each id which it was. At last the power fails in the middle of a
-//! write: the log opens again with all that was settled.
+//! id once there is more. Later a planner asks of each id which it was. Then the power fails in the middle of a write:
+//! the log opens again with all that was settled. And the id of a what-if session that was dropped is not handed out
+//! again after a restart.
 //!
 //! `cargo run --example planners [FILE]`; without a file the log lies in the temporary folder and is removed.
-use std::{fs, path::PathBuf};
+use std::{
+    fs,
+    path::{Path, PathBuf},
+};
 
 use awirbesh::{Entry, Error, IdSequence, Log, LogFile, PushRefused, Refusal};
 
@@ -12,8 +16,11 @@ use awirbesh::{Entry, Error, IdSequence, Log, LogFile, PushRefused, Refusal};
 const LITTLE_ROOM: usize = 2 * 1024;
 const MORE_ROOM: usize = 1 << 20;
 
-/// Where the planners bring the index builds that they finished, in any order. Ids go into the log in ascending order, so
-/// a build waits here until every id before it has ended, built or dropped, and until there is room for it.
+/// So few, that the story shows where ids go on after a restart; each step stores the ceiling anew.
+const IDS_A_STEP: u64 = 2;
+
+/// Where the planners bring the index builds that they finished, in any order. Ids go into the log in ascending order,
+/// so a build waits here until every id before it has ended, built or dropped, and until there is room for it.
 struct Catalog {
     log: LogFile,
     ended: IdSequence,
@@ -21,8 +28,9 @@ struct Catalog {
 }
 
 impl Catalog {
-    fn open(path: &PathBuf) -> Result<Catalog, Error> {
-        let log = LogFile::open(path, LITTLE_ROOM)?;
+    fn open(path: &Path, room: usize) -> Result<Catalog, Error> {
+        let mut log = LogFile::open(path, room)?;
+        log.set_step(IDS_A_STEP)?;
         let ended = IdSequence::new(log.log().state().next);
         Ok(Catalog { log, ended, waiting: Vec::new() })
     }
@@ -96,23 +104,22 @@ impl Catalog {
 
     /// Of an id up to the last written, that it is absent says for good that nothing was built; of a later one it says
     /// nothing yet.
-    fn tell_which_is_which(&self) -> Result<(), Error> {
+    fn tell_which_is_which(&self, ids: impl IntoIterator<Item = u64>) -> Result<(), Error> {
         println!("\nwhich is which?");
         let state = self.log.log().state();
-        for id in 1..state.next {
+        for id in ids {
             match self.log.log().get(id)? {
                 Some(index) => println!("  {id} is real: {}", String::from_utf8_lossy(&index)),
                 None if id <= state.last => println!("  {id} was a what-if"),
                 None => println!("  {id} is not settled yet"),
             }
         }
-        println!();
         Ok(())
     }
 }
 
-fn tell(path: &PathBuf) -> Result<(), Error> {
-    let mut catalog = Catalog::open(path)?;
+fn tell(path: &Path) -> Result<(), Error> {
+    let mut catalog = Catalog::open(path, LITTLE_ROOM)?;
 
     let on_orders = catalog.take("planner A")?;
     let on_lines = catalog.take("planner B")?;
@@ -123,7 +130,8 @@ fn tell(path: &PathBuf) -> Result<(), Error> {
     catalog.build("planner A", on_orders, "orders (customer, day)")?;
     catalog.drop_id("planner C", what_if)?;
     catalog.build("planner B", on_lines, "lines (product)")?;
-    catalog.tell_which_is_which()?;
+    catalog.tell_which_is_which(on_orders..=on_events)?;
+    println!();
     catalog.make_room()?;
 
     let another = catalog.take("planner A")?;
@@ -131,9 +139,9 @@ fn tell(path: &PathBuf) -> Result<(), Error> {
     let on_customers = catalog.take("planner B")?;
     catalog.build("planner B", on_customers, "customers (city)")?;
 
-    catalog.tell_which_is_which()?;
+    catalog.tell_which_is_which(on_orders..=on_customers)?;
 
-    println!("planner B brings index {on_lines} again");
+    println!("\nplanner B brings index {on_lines} again");
     match catalog.log.push(&[Entry::new(on_lines, "lines (product, day)")]) {
         Err(Error::PushRefused(refused)) => println!("  {refused}"),
         other => println!("  not as expected: {other:?}"),
@@ -151,20 +159,29 @@ fn tell(path: &PathBuf) -> Result<(), Error> {
     drop(catalog);
     lose_power(path, &Entry::new(on_clicks, "clicks (page, day, country) ".repeat(100)))?;
 
-    let again = LogFile::open(path, LITTLE_ROOM)?;
-    again.log().check()?;
-    let (state, cut_off) = (again.log().state(), again.cut_off().bytes());
+    let mut catalog = Catalog::open(path, MORE_ROOM)?;
+    catalog.log.log().check()?;
+    let (state, cut_off) = (catalog.log.log().state(), catalog.log.cut_off().bytes());
     println!("opened again: {cut_off} bytes of an entry that was not whole are cut off");
     println!("  {} bytes, last written {}, next id {}; sound", state.length, state.last, state.next);
-    Ok(())
+
+    println!();
+    let dropped = catalog.take("planner A")?;
+    catalog.drop_id("planner A", dropped)?;
+    println!("the catalog is closed, and opened again");
+    drop(catalog);
+    let mut catalog = Catalog::open(path, MORE_ROOM)?;
+    let on_days = catalog.take("planner B")?;
+    catalog.build("planner B", on_days, "days (week)")?;
+    catalog.tell_which_is_which([dropped, on_days])
 }
 
 /// Leaves the file as a power failure does in the middle of a push: with the first half of what it was to write.
-fn lose_power(path: &PathBuf, entry: &Entry) -> Result<(), Error> {
+fn lose_power(path: &Path, entry: &Entry) -> Result<(), Error> {
     let mut store = fs::read(path)?;
     let length = store.len();
     store.resize(length + MORE_ROOM, 0);
-    let (mut log, _) = Log::recover(store, length as u64)?;
+    let (mut log, _) = Log::recover(store, length as u64, 0)?; // it takes no id
     log.push(std::slice::from_ref(entry)).map_err(Error::PushRefused)?;
     fs::write(path, &log.bytes()[..(length + log.bytes().len()) / 2])?;
     Ok(())
@@ -174,9 +191,10 @@ fn main() -> Result<(), Error> {
     match std::env::args_os().nth(1) {
         Some(path) => tell(&PathBuf::from(path)),
         None => {
-            let path = std::env::temp_dir().join(format!("planners-{}.log", std::process::id()));
-            let told = tell(&path);
-            fs::remove_file(&path)?;
+            let folder = std::env::temp_dir().join(format!("planners-{}", std::process::id()));
+            fs::create_dir(&folder)?;
+            let told = tell(&folder.join("catalog.log"));
+            fs::remove_dir_all(&folder)?;
             told
         }
     }

@@ -1,22 +1,23 @@
 //! What a log in a file promises of a disk that fails or loses power, over a simulated one: every operation in turn,
-//! and of what no sync has covered the first bytes, however many. A log's file is cut at every byte, and so is what a
+//! and of what no sync has covered the first bytes, however many, and any names. That used ids stay used: restarts.rs.
+//! A log's file is cut at every byte, and so is what a
 //! power failure leaves of a new one. Elsewhere the cuts are in a page's first fields, before its last byte, at its end
 //! and at each 97th byte; or, where the cut of a failed push fails too, at each half of a page. A disk that keeps later
 //! bytes and not the earlier has a test of its own, which says what then holds.
 use crate::{
     disk::Disk,
     simulated::{Chance, Fault, Simulated},
-    CutOff, Entry, Error, LogFile, Refusal,
+    CutOff, Entry, Error, Log, LogFile, Refusal,
 };
 
 const PAGE: usize = 1_024;
-const CAPACITY: usize = 64 * PAGE;
+pub(crate) const CAPACITY: usize = 64 * PAGE;
 
 /// The batches that each opening of the log pushes, by the pages of their entries; 0 is an id that was pushed before.
 const STORY: [&[&[usize]]; 2] = [&[&[2, 1], &[1]], &[&[3, 1, 0], &[1, 1]]];
 
 /// Says which case it was if the test fails in it.
-struct Case(String);
+pub(crate) struct Case(pub(crate) String);
 
 impl Drop for Case {
     fn drop(&mut self) {
@@ -27,7 +28,7 @@ impl Drop for Case {
 }
 
 /// An entry of so many pages, with a few bytes of filling or none.
-fn entry(id: u64, pages: usize) -> Entry {
+pub(crate) fn entry(id: u64, pages: usize) -> Entry {
     let length = 1_023 * pages - 11 - 5 * (id as usize % 3);
     Entry::new(id, (0..length).map(|i| (i as u64 + 7 * id) as u8).collect::<Vec<_>>())
 }
@@ -36,12 +37,12 @@ fn pages(entry: &Entry) -> usize {
     entry.data.len() / 1_023 + 1
 }
 
-fn open(disk: &Simulated) -> Result<LogFile, Error> {
-    LogFile::open_on(Box::new(disk.clone()), CAPACITY)
+pub(crate) fn open(disk: &Simulated) -> Result<LogFile, Error> {
+    LogFile::open_on(disk.handle(), CAPACITY)
 }
 
 /// Every entry of a sound log, each by a scan and by a lookup.
-fn entries_of(log: &LogFile) -> Vec<Entry> {
+pub(crate) fn entries_of(log: &LogFile) -> Vec<Entry> {
     let log = log.log();
     log.check().unwrap();
     let entries: Vec<Entry> = log.scan(..).unwrap().map(|entry| entry.unwrap()).collect();
@@ -53,17 +54,17 @@ fn entries_of(log: &LogFile) -> Vec<Entry> {
 
 /// The bytes of a log of these entries.
 fn bytes_of(entries: &[Entry]) -> Vec<u8> {
-    let disk = Simulated::new();
-    open(&disk).unwrap().push(entries).unwrap();
-    disk.bytes()
+    let mut log = Log::with_capacity(CAPACITY);
+    log.push(entries).unwrap();
+    log.bytes().to_vec()
 }
 
-/// Where a story begins: a disk, and the entries that are whole on it. A new file; a log; and logs whose last entry, of
-/// 9 pages, was cut after so many bytes.
+/// Where a story begins: a disk, and the entries that are whole on it. Nothing; a log; and logs whose last entry, of 9
+/// pages, was cut after so many bytes.
 fn beginnings() -> Vec<(Simulated, Vec<Entry>)> {
     let entries = [entry(1, 1), entry(2, 2), entry(3, 9)];
     let bytes = bytes_of(&entries);
-    let cut = |pages, more| (Simulated::with(&bytes[..pages * PAGE + more]), entries[..2].to_vec());
+    let cut = |pages, more| (Simulated::with(&bytes[..pages * PAGE + more], 4), entries[..2].to_vec());
     vec![(Simulated::new(), Vec::new()), cut(3, 0), cut(3, 700), cut(4, 0), cut(11, 1_023)]
 }
 
@@ -75,24 +76,37 @@ struct Told {
     attempted: Vec<Entry>,
 }
 
+/// What an opening or a take answers, or nothing if it failed because the disk did.
+fn unless_failed<T>(disk: &Simulated, answer: Result<T, Error>) -> Option<T> {
+    match answer {
+        Err(Error::Io(error)) => {
+            assert!(error.to_string().ends_with(&disk.first_error()), "{error}");
+            None
+        }
+        answer => Some(answer.unwrap()),
+    }
+}
+
 /// Opens the log and pushes until the disk fails. The log answers what was pushed, and nothing of a push that failed.
 fn tell(disk: &Simulated, mut settled: Vec<Entry>) -> Told {
     for session in STORY {
-        let mut log = match open(disk) {
-            Err(Error::Io(error)) => {
-                assert_eq!(error.to_string(), disk.first_error());
-                return Told { settled, attempted: Vec::new() };
-            }
-            opened => opened.unwrap(),
+        let Some(mut log) = unless_failed(disk, open(disk)) else {
+            return Told { settled, attempted: Vec::new() };
         };
         assert_eq!(entries_of(&log), settled);
         for pages in session {
             let mut batch: Vec<Entry> = Vec::new();
             for &pages in *pages {
-                batch.push(match pages {
-                    0 => entry(log.log().state().last, 1),
-                    _ => entry(log.take().unwrap(), pages),
-                });
+                if pages == 0 {
+                    batch.push(entry(log.log().state().last, 1));
+                    continue;
+                }
+                let before = log.log().state();
+                let Some(id) = unless_failed(disk, log.take()) else {
+                    assert_eq!(log.log().state(), before);
+                    return Told { settled, attempted: Vec::new() };
+                };
+                batch.push(entry(id, pages));
             }
             let before = log.log().state();
             let pushed = log.push(&batch);
@@ -153,6 +167,7 @@ fn go_on(disk: &Simulated, told: &Told) {
 
     whole.push(entry(log.take().unwrap(), 2));
     log.push(&whole[whole.len() - 1..]).unwrap();
+    drop(log);
     let again = open(&disk.restart(0)).unwrap();
     assert_eq!((entries_of(&again), again.cut_off()), (whole, CutOff::default()));
 }
@@ -181,7 +196,7 @@ fn a_file_cut_at_every_byte_opens() {
     let bytes = bytes_of(&told.attempted);
     for length in 0..=bytes.len() {
         let _case = Case(format!("{length} bytes"));
-        go_on(&Simulated::with(&bytes[..length]), &told);
+        go_on(&Simulated::with(&bytes[..length], 5), &told);
     }
 }
 
@@ -219,12 +234,12 @@ fn any_operation_may_fail() {
             after_any_step(beginning, entries, cuts(12 * PAGE, false), faults, |disk, told| {
                 let pushed = !told.attempted.is_empty();
                 assert_eq!(disk.operations(), operation + if pushed { 3 } else { 1 });
-                let disks = [&disk.restart(0), &disk.restart(usize::MAX), disk];
+                let disks = [disk.restarts(0), disk.restarts(usize::MAX), vec![disk.clone()]].concat();
                 if pushed {
                     let settled = bytes_of(&told.settled);
                     assert!(disks.iter().all(|disk| disk.bytes() == settled));
                 }
-                for disk in disks {
+                for disk in &disks {
                     go_on(disk, told);
                 }
             });
@@ -262,7 +277,9 @@ fn what_cuts_a_failed_push_back_may_fail() {
                 }
                 assert_eq!(disk.operations(), operation + later + 1);
                 for steps in (0..=disk.steps()).step_by(PAGE / 2).chain([usize::MAX]) {
-                    go_on(&disk.restart(steps), told);
+                    for disk in disk.restarts(steps) {
+                        go_on(&disk, told);
+                    }
                 }
                 if disk.forgot() {
                     assert!(matches!((first(0), later, second), (Fault::Forgets { .. }, 1, Fault::Fails { after: 0 })));
@@ -295,9 +312,12 @@ fn the_sync_of_an_opening_may_forget_what_another_wrote() {
     let mut taken_back = 0;
     for after in cuts(bytes.len() - before.len(), false) {
         let _case = Case(format!("after {after} steps"));
-        let mut disk = Simulated::with(&before);
-        disk.write(before.len() as u64, &bytes[before.len()..]).unwrap();
-        disk.set_fault(disk.operations(), Fault::Forgets { after });
+        let disk = Simulated::with(&before, 4);
+        let mut stopped = disk.handle();
+        assert!(stopped.open().unwrap());
+        stopped.write(before.len() as u64, &bytes[before.len()..]).unwrap();
+        drop(stopped);
+        disk.set_fault(disk.operations() + 2, Fault::Forgets { after }); // after the opening and the ceiling
         assert!(matches!(open(&disk), Err(Error::Io(_))));
         let (_, answered) = open_again(&disk, &told);
         let (_, kept) = open_again(&disk.restart(0), &told);
@@ -316,7 +336,9 @@ fn the_power_may_fail_at_any_byte() {
         let every_byte = entries.is_empty(); // the other beginnings differ in how they are opened
         for steps in cuts(disk.steps(), every_byte) {
             let _case = Case(format!("{steps} steps kept"));
-            go_on(&disk.restart(steps), &told);
+            for disk in disk.restarts(steps) {
+                go_on(&disk, &told);
+            }
         }
     });
 }
@@ -371,7 +393,7 @@ fn whatever_comes_after_a_log_none_of_its_bytes_is_lost() {
             file.extend(page);
         }
         file.truncate(file.len() - chance.up_to((file.len() - bytes.len()).min(PAGE)));
-        let disk = Simulated::with(&file);
+        let disk = Simulated::with(&file, 4);
         match open(&disk) {
             Ok(log) => assert!(log.log().bytes() == disk.bytes() && file.starts_with(log.log().bytes())),
             Err(Error::Refused(refusal)) => {

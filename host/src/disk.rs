@@ -1,14 +1,22 @@
 //! Where a log's bytes are kept. [`LogFile`](crate::LogFile) asks for no more than this, so that its tests can put a
-//! disk that fails and forgets in a file's place.
+//! disk that fails and forgets in the files' place.
 use std::{
+    ffi::OsString,
     fmt,
     fs::{self, File, OpenOptions},
     io::{self, Read, Seek, SeekFrom, Write},
     path::{Path, PathBuf},
 };
 
-/// One file and its name. Until a sync returns, a crash may undo what was asked for before it.
+use crate::ceiling;
+
+/// A log's file, its ceiling file, and their names in one folder. Until a sync returns, a crash may undo what was asked
+/// for before it. The log's file is opened or made before its bytes are asked for, and is locked from then on.
 pub(crate) trait Disk: fmt::Debug + Send + Sync {
+    /// Opens the log's file: whether there is one. Fails while it is open elsewhere.
+    fn open(&mut self) -> io::Result<bool>;
+    /// Makes the log's file, empty, or opens one that another process just made.
+    fn make(&mut self) -> io::Result<()>;
     fn length(&mut self) -> io::Result<u64>;
     /// Reads the file's first bytes, as many as the buffer has.
     fn read(&mut self, bytes: &mut [u8]) -> io::Result<()>;
@@ -19,32 +27,58 @@ pub(crate) trait Disk: fmt::Debug + Send + Sync {
     /// Waits until the file's bytes and its length are on the disk, whoever wrote them. If it fails, a later one may
     /// return without the bytes that this one was to cover, although a read has them.
     fn sync(&mut self) -> io::Result<()>;
-    /// Waits until the file's name is: its folder holds that, not the file. See [`sync_folder`] for where it does not.
-    fn sync_name(&mut self) -> io::Result<()>;
+    /// Waits until the names are: the folder holds them, not the files. See [`sync_folder`] for where it does not.
+    fn sync_names(&mut self) -> io::Result<()>;
+
+    fn ceiling_path(&self) -> &Path;
+    /// The bytes of the ceiling file, of a longer one than a ceiling takes only the first; none if there is no file.
+    fn read_ceiling(&mut self) -> io::Result<Option<Vec<u8>>>;
+    /// Makes a new file with these bytes. Nobody reads it before it has the ceiling file's name.
+    fn write_new(&mut self, bytes: &[u8]) -> io::Result<()>;
+    /// Waits until the new file's bytes are on the disk.
+    fn sync_new(&mut self) -> io::Result<()>;
+    /// Gives the new file the ceiling file's name, in place of the file that has it.
+    fn rename_new(&mut self) -> io::Result<()>;
+    /// Gives the new file the ceiling file's name, unless a file has it: that one stays.
+    fn link_new(&mut self) -> io::Result<()>;
 }
 
-/// A file that is locked while this stands. Closing alone would not unlock it at once: a process that another thread
-/// is just starting holds a copy of the descriptor, and with it the lock, until it runs its program.
+/// The real files. Closing alone would not unlock the log's at once: a process that another thread is just starting
+/// holds a copy of the descriptor, and with it the lock, until it runs its program.
 #[derive(Debug)]
-pub(crate) struct Locked {
-    file: File,
+pub(crate) struct Files {
+    path: PathBuf,
+    ceiling: PathBuf,
     folder: PathBuf,
-    /// This opening made the file, or may have.
-    made: bool,
+    log: Option<File>,
+    new: Option<New>,
+    /// There was no log, or a name was given here: nobody else has synced the folder for it.
+    named: bool,
 }
 
-impl Locked {
-    /// Opens a regular file, or makes an empty one. Fails while it is open elsewhere.
-    pub(crate) fn open(path: &Path) -> io::Result<Locked> {
-        let mut options = OpenOptions::new();
-        options.read(true).write(true);
-        // A file that opens was there. One that does not is made here; if another process makes it in between, it
-        // counts as made here all the same, which is the stricter. (The other way round, `create_new` first, a link to
-        // a file that is yet to be made would be neither made nor there.)
-        let (file, made) = match options.open(path) {
-            Err(error) if error.kind() == io::ErrorKind::NotFound => (options.create(true).open(path)?, true),
-            opened => (opened?, false),
-        };
+/// A file that is to become the ceiling file, under a name of its own, which goes when this does.
+#[derive(Debug)]
+struct New {
+    file: File,
+    path: PathBuf,
+}
+
+impl Drop for New {
+    fn drop(&mut self) {
+        let _ = fs::remove_file(&self.path); // not there any more if it was renamed
+    }
+}
+
+impl Files {
+    /// Opens and makes nothing yet.
+    pub(crate) fn at(path: &Path) -> io::Result<Files> {
+        let path = real_path(path)?;
+        let mut folder = path.clone();
+        folder.pop();
+        Ok(Files { ceiling: appended(&path, ".ceiling"), folder, path, log: None, new: None, named: false })
+    }
+
+    fn hold(&mut self, file: File) -> io::Result<()> {
         // A device has no length that tells what is on it: it would be taken for an empty log.
         if !file.metadata()?.is_file() {
             return Err(io::Error::new(
@@ -53,58 +87,179 @@ impl Locked {
             ));
         }
         file.try_lock().map_err(io::Error::from)?;
-        let mut locked = Locked { file, folder: PathBuf::new(), made };
-        // The folder that the file is in, which that of a link to it need not be.
-        locked.folder = fs::canonicalize(path)?;
-        locked.folder.pop();
-        Ok(locked)
+        self.log = Some(file);
+        Ok(())
+    }
+
+    fn log(&mut self) -> &mut File {
+        self.log.as_mut().expect("the log's file is opened or made first")
+    }
+
+    /// A new file. Under the log's lock it has always the same name, so that what a crash left there goes with the next
+    /// ceiling. Without the lock another process may be at it too: then it has the first name that is free.
+    fn make_new(&self) -> io::Result<New> {
+        let name = appended(&self.ceiling, ".new");
+        if self.log.is_none() {
+            return New::make_free(&name);
+        }
+        match fs::remove_file(&name) {
+            Err(error) if error.kind() != io::ErrorKind::NotFound => Err(error),
+            _ => New::make(name),
+        }
     }
 }
 
-impl Disk for Locked {
+impl New {
+    fn make(path: PathBuf) -> io::Result<New> {
+        Ok(New { file: File::create_new(&path)?, path })
+    }
+
+    fn make_free(name: &Path) -> io::Result<New> {
+        let mut number = 0u64;
+        loop {
+            match New::make(appended(name, &format!(".{number}"))) {
+                Err(error) if error.kind() == io::ErrorKind::AlreadyExists => number += 1,
+                made => return made,
+            }
+        }
+    }
+}
+
+fn options() -> OpenOptions {
+    let mut options = OpenOptions::new();
+    options.read(true).write(true);
+    options
+}
+
+fn appended(path: &Path, end: &str) -> PathBuf {
+    let mut name = OsString::from(path);
+    name.push(end);
+    name.into()
+}
+
+/// Where the file of a path is, or is to be made: the folder of a link to it need not be its own. Links are followed,
+/// also one to a file that is not there.
+fn real_path(path: &Path) -> io::Result<PathBuf> {
+    let mut path = path.to_path_buf();
+    loop {
+        match fs::canonicalize(&path) {
+            Err(error) if error.kind() == io::ErrorKind::NotFound => {}
+            found => return found, // of links that lead nowhere an error too
+        }
+        let (Some(folder), Some(name)) = (path.parent(), path.file_name()) else {
+            return Err(io::ErrorKind::NotFound.into());
+        };
+        let folder = fs::canonicalize(Path::new(".").join(folder))?; // the folder of a bare name is ""
+        let here = folder.join(name);
+        match fs::read_link(&here) {
+            Ok(target) => path = folder.join(target),
+            Err(_) => return Ok(here),
+        }
+    }
+}
+
+impl Disk for Files {
+    fn open(&mut self) -> io::Result<bool> {
+        match options().open(&self.path) {
+            Err(error) if error.kind() == io::ErrorKind::NotFound => {
+                self.named = true;
+                Ok(false)
+            }
+            opened => self.hold(opened?).map(|()| true),
+        }
+    }
+
+    fn make(&mut self) -> io::Result<()> {
+        self.named = true;
+        let made = options().create(true).open(&self.path)?;
+        self.hold(made)
+    }
+
     fn length(&mut self) -> io::Result<u64> {
-        Ok(self.file.metadata()?.len())
+        Ok(self.log().metadata()?.len())
     }
 
     fn read(&mut self, bytes: &mut [u8]) -> io::Result<()> {
-        self.file.seek(SeekFrom::Start(0))?;
-        self.file.read_exact(bytes)
+        self.log().seek(SeekFrom::Start(0))?;
+        self.log().read_exact(bytes)
     }
 
     fn write(&mut self, position: u64, bytes: &[u8]) -> io::Result<()> {
-        self.file.seek(SeekFrom::Start(position))?;
-        self.file.write_all(bytes)
+        self.log().seek(SeekFrom::Start(position))?;
+        self.log().write_all(bytes)
     }
 
     fn cut(&mut self, length: u64) -> io::Result<()> {
-        self.file.set_len(length)
+        self.log().set_len(length)
     }
 
     fn sync(&mut self) -> io::Result<()> {
-        self.file.sync_all()
+        self.log().sync_all()
     }
 
-    fn sync_name(&mut self) -> io::Result<()> {
-        sync_folder(File::open(&self.folder), self.made)
+    fn sync_names(&mut self) -> io::Result<()> {
+        sync_folder(File::open(&self.folder), self.named)
+    }
+
+    fn ceiling_path(&self) -> &Path {
+        &self.ceiling
+    }
+
+    fn read_ceiling(&mut self) -> io::Result<Option<Vec<u8>>> {
+        let found = match fs::metadata(&self.ceiling) {
+            Err(error) if error.kind() == io::ErrorKind::NotFound => return Ok(None),
+            found => found?,
+        };
+        let mut bytes = Vec::new();
+        // Anything but a file is no ceiling, and is not opened: a pipe would wait for a writer.
+        if found.is_file() {
+            File::open(&self.ceiling)?.take(ceiling::LONGEST as u64 + 1).read_to_end(&mut bytes)?;
+        }
+        Ok(Some(bytes))
+    }
+
+    fn write_new(&mut self, bytes: &[u8]) -> io::Result<()> {
+        self.new = None; // one that failed goes first
+        let new = self.make_new()?;
+        self.new.insert(new).file.write_all(bytes)
+    }
+
+    fn sync_new(&mut self) -> io::Result<()> {
+        self.new.as_ref().expect(WRITTEN_FIRST).file.sync_all()
+    }
+
+    fn rename_new(&mut self) -> io::Result<()> {
+        self.named = true;
+        fs::rename(&self.new.take().expect(WRITTEN_FIRST).path, &self.ceiling)
+    }
+
+    fn link_new(&mut self) -> io::Result<()> {
+        match fs::hard_link(&self.new.take().expect(WRITTEN_FIRST).path, &self.ceiling) {
+            Err(error) if error.kind() == io::ErrorKind::AlreadyExists => Ok(()),
+            linked => linked,
+        }
     }
 }
 
-/// Syncs a log's folder, for the file's name. A process may be let search a folder and not read it, and then it cannot
-/// sync it. A file that was there before is opened all the same: whoever made it had to sync its name, and an opening
-/// that makes a file fails if it cannot. (What that leaves, an empty file, a later opening cannot tell from one that
-/// was made well.) No other failure is passed over.
-fn sync_folder(opened: io::Result<File>, made: bool) -> io::Result<()> {
+const WRITTEN_FIRST: &str = "the new file is written first";
+
+/// Syncs a log's folder, for the names. A process may be let search a folder and not read it, and then it cannot sync
+/// it. Files that were there before are opened all the same: whoever made them had to sync their names. But no log is
+/// made there, and no ceiling stored. No other failure is passed over.
+fn sync_folder(opened: io::Result<File>, named: bool) -> io::Result<()> {
     match opened {
-        Err(error) if error.kind() == io::ErrorKind::PermissionDenied && !made => Ok(()),
+        Err(error) if error.kind() == io::ErrorKind::PermissionDenied && !named => Ok(()),
         opened => opened.and_then(|folder| folder.sync_all()).map_err(|error| {
             io::Error::new(error.kind(), format!("the folder that the log is in could not be synced: {error}"))
         }),
     }
 }
 
-impl Drop for Locked {
+impl Drop for Files {
     fn drop(&mut self) {
-        let _ = self.file.unlock();
+        if let Some(log) = &self.log {
+            let _ = log.unlock();
+        }
     }
 }
 
@@ -116,11 +271,11 @@ mod tests {
     #[test]
     fn only_a_folder_that_may_not_be_read_is_passed_over() {
         for kind in [io::ErrorKind::PermissionDenied, io::ErrorKind::NotFound, io::ErrorKind::Other] {
-            for made in [false, true] {
-                match sync_folder(Err(kind.into()), made) {
-                    Ok(()) => assert!(kind == io::ErrorKind::PermissionDenied && !made),
+            for named in [false, true] {
+                match sync_folder(Err(kind.into()), named) {
+                    Ok(()) => assert!(kind == io::ErrorKind::PermissionDenied && !named),
                     Err(error) => {
-                        assert!(kind != io::ErrorKind::PermissionDenied || made);
+                        assert!(kind != io::ErrorKind::PermissionDenied || named);
                         assert_eq!(error.kind(), kind);
                         assert!(error.to_string().contains("the folder that the log is in could not be synced"));
                     }
@@ -128,9 +283,9 @@ mod tests {
             }
         }
         // A folder that opens, and does not sync: the failure is not passed over, whoever made the file.
-        for made in [false, true] {
-            sync_folder(File::open("."), made).unwrap();
-            let error = sync_folder(File::open("/dev/full"), made).unwrap_err();
+        for named in [false, true] {
+            sync_folder(File::open("."), named).unwrap();
+            let error = sync_folder(File::open("/dev/full"), named).unwrap_err();
             assert!(error.to_string().contains("the folder that the log is in could not be synced"));
         }
     }

@@ -7,16 +7,25 @@ use crate::{
 };
 
 impl State {
-    /// The state of an empty log: 0, 0, 1.
+    /// The state of an empty log: 0, 0, 1, 1. No id is below its ceiling: [`State::raise`] comes before the first take.
     pub fn fresh() -> State {
         unsafe { ffi::awirbesh_fresh() }
     }
 
-    /// Hands out the next id and moves `next`.
+    /// Hands out the next id and moves `next`. At the ceiling it is refused with [`Refusal::CeilingReached`].
     pub fn take(&mut self) -> Result<u64, Refusal> {
         let taken = unsafe { ffi::awirbesh_take(*self) };
         *self = taken.state;
         Refusal::test(taken.number, 0).map(|()| taken.id)
+    }
+
+    /// Raises the ceiling by a step from 1 to 2^32, and says what it is now. Where ids are to stay used across a
+    /// restart it is stored before an id is taken, and [`recover`] is given it then. A state is `Copy`: raise a copy,
+    /// store its ceiling, and go on with it once that is done.
+    pub fn raise(&mut self, step: u64) -> Result<u64, Refusal> {
+        let raised = unsafe { ffi::awirbesh_raise(*self, step) };
+        *self = raised.state;
+        Refusal::test(raised.number, 0).map(|()| raised.state.ceiling)
     }
 }
 
@@ -35,9 +44,11 @@ pub struct Recovered {
     pub dropped: u64,
 }
 
-/// The state of the log in the first `length` bytes of the store, by its last whole entry.
-pub fn recover(store: &[u8], length: u64) -> Result<Recovered, Refusal> {
-    let r = unsafe { ffi::awirbesh_recover(store.as_ptr(), store.len(), length) };
+/// The state of the log in the first `length` bytes of the store, by its last whole entry and the ceiling that was
+/// stored: no id below that is handed out any more, nor any before the ceiling is raised. With 0, or an older one, ids
+/// that were handed out and are not in the log may be handed out again.
+pub fn recover(store: &[u8], length: u64, stored: u64) -> Result<Recovered, Refusal> {
+    let r = unsafe { ffi::awirbesh_recover(store.as_ptr(), store.len(), length, stored) };
     Refusal::test(r.number, r.value).map(|()| Recovered { state: r.state, excess: r.excess, dropped: r.dropped })
 }
 

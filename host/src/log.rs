@@ -19,8 +19,8 @@ impl Entry {
 }
 
 /// A push that was refused. The entries before the refused one were written and stay. After [`Refusal::TooLarge`] and
-/// [`Refusal::NoRoom`] the refused one and those after it keep their ids, and can be pushed again, as long as the log
-/// is open: one that is opened again knows nothing of ids above the last stored.
+/// [`Refusal::NoRoom`] the refused one and those after it keep their ids, and can be pushed again until a greater id
+/// is.
 #[derive(Clone, Copy, Debug, PartialEq, Eq)]
 pub struct PushRefused {
     pub refusal: Refusal,
@@ -57,6 +57,10 @@ impl CutOff {
 }
 
 /// A log in memory: a store, which [`Log::grow`] makes larger, and the state of the log in its front.
+///
+/// Ids are handed out below the ceiling alone, and a new log's is 1: [`Log::raise`] comes before the first
+/// [`Log::take`]. Where ids are to stay used across a restart, the caller keeps the ceiling, as
+/// [`LogFile`](crate::LogFile) does in a file; who has no such ids may raise by 2^32 and give a recovery 0.
 #[derive(Clone, Debug)]
 pub struct Log {
     store: Vec<u8>,
@@ -64,19 +68,22 @@ pub struct Log {
 }
 
 impl Log {
-    /// An empty log in a store of so many bytes.
+    /// An empty log in a store of so many bytes. Its ceiling is 1: see [`Log::raise`].
     pub fn with_capacity(bytes: usize) -> Log {
         Log { store: vec![0; bytes], state: State::fresh() }
     }
 
-    /// The log that the first `length` bytes of a store hold, by its last whole entry, and what was cut off its end.
-    pub fn recover(store: Vec<u8>, length: u64) -> Result<(Log, CutOff), Refusal> {
-        let Recovered { state, excess, dropped } = lent::recover(&store, length)?;
+    /// The log that the first `length` bytes of a store hold, by its last whole entry and the ceiling that was stored,
+    /// and what was cut off its end. Its next id is not below that ceiling, and the ceiling is its next id: see
+    /// [`Log::raise`].
+    pub fn recover(store: Vec<u8>, length: u64, stored: u64) -> Result<(Log, CutOff), Refusal> {
+        let Recovered { state, excess, dropped } = lent::recover(&store, length, stored)?;
         Ok((Log { store, state }, CutOff { excess, dropped }))
     }
 
-    /// Forgets what was pushed since the log had a state: a push writes beyond the length alone.
-    pub(crate) fn go_back(&mut self, state: State) {
+    /// Goes on with a state of this log: an earlier one, which forgets what was pushed since, as a push writes beyond
+    /// the length alone; or one with a raised ceiling.
+    pub(crate) fn go_on_from(&mut self, state: State) {
         self.state = state;
     }
 
@@ -99,7 +106,7 @@ impl Log {
         lent::check(&self.store, self.state.length)
     }
 
-    /// The log's three numbers.
+    /// The log's four numbers.
     pub fn state(&self) -> State {
         self.state
     }
@@ -110,9 +117,16 @@ impl Log {
         &self.store[..self.state.length as usize]
     }
 
-    /// Takes the next id. One that is never pushed stays absent.
+    /// Takes the next id. One that is never pushed stays absent. At the ceiling it is refused with
+    /// [`Refusal::CeilingReached`]: raise it first.
     pub fn take(&mut self) -> Result<u64, Refusal> {
         self.state.take()
+    }
+
+    /// Raises the ceiling by a step from 1 to 2^32, and says what it is now. The caller stores it, so that it outlives
+    /// the process, before taking an id, and hands it to [`Log::recover`]: then no id is handed out twice.
+    pub fn raise(&mut self, step: u64) -> Result<u64, Refusal> {
+        self.state.raise(step)
     }
 
     /// Appends entries in ascending order of ids.

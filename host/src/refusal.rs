@@ -19,13 +19,15 @@ pub enum Refusal {
     Overlap { page: u64 },
     NotAscending { page: u64 },
     ValueTooLarge,
+    CeilingReached,
+    BadRaise,
 }
 
 impl Refusal {
     /// The refusal of a number and a value as the archive answers them: none for 0.
     ///
     /// # Panics
-    /// On a number above 16, which no function of the archive answers.
+    /// On any other number, which no function of the archive answers.
     pub(crate) fn from_answer(number: u64, value: u64) -> Option<Refusal> {
         Some(match number {
             0 => return None,
@@ -45,6 +47,8 @@ impl Refusal {
             14 => Refusal::Overlap { page: value },
             15 => Refusal::NotAscending { page: value },
             16 => Refusal::ValueTooLarge,
+            30 => Refusal::CeilingReached,
+            31 => Refusal::BadRaise,
             other => unreachable!("the archive answered refusal {other}"),
         })
     }
@@ -57,7 +61,7 @@ impl Refusal {
         }
     }
 
-    /// The number that the rules give the refusal, 1 to 16.
+    /// The number that the rules give the refusal: 1 to 16, 30 or 31.
     pub fn number(self) -> u64 {
         match self {
             Refusal::BadState => 1,
@@ -76,6 +80,8 @@ impl Refusal {
             Refusal::Overlap { .. } => 14,
             Refusal::NotAscending { .. } => 15,
             Refusal::ValueTooLarge => 16,
+            Refusal::CeilingReached => 30,
+            Refusal::BadRaise => 31,
         }
     }
 }
@@ -100,6 +106,8 @@ impl fmt::Display for Refusal {
             Refusal::Overlap { page } => write!(f, "an entry starts inside another on page {page}"),
             Refusal::NotAscending { page } => write!(f, "id not ascending on page {page}"),
             Refusal::ValueTooLarge => write!(f, "data of more than 16,777,208 bytes"),
+            Refusal::CeilingReached => write!(f, "no id is left below the ceiling: raise it, store it, then take"),
+            Refusal::BadRaise => write!(f, "a ceiling is raised by 1 to 2^32, and to 2^64-1 at most"),
         }
     }
 }

@@ -1,6 +1,7 @@
-//! The log in a file: what is written, synced, cut and refused; and the example's story. What a disk can do to it that
-//! no test can make a real one do is in src/crashes.rs.
+//! The log in a file and its ceiling beside it: what is written, synced, cut and refused; and the example's story. What
+//! a disk can do to it that no test can make a real one do is in src/crashes.rs and src/restarts.rs.
 use std::{
+    collections::BTreeSet,
     env, fs,
     io::{self, Write},
     os::unix::{
@@ -11,9 +12,25 @@ use std::{
     process::{Command, Output},
 };
 
-use awirbesh::{CutOff, Entry, Error, LogFile, PushRefused, Refusal, State};
+use awirbesh::{CeilingFault, CutOff, Entry, Error, Log, LogFile, PushRefused, Refusal, State};
 
 const CAPACITY: usize = 64 * 1024;
+
+/// What is asked of the disk for the ceiling of a log that is to be made, for an opening, and for a higher ceiling.
+const MADE: &str = "write /log.ceiling.new.0\nsync /log.ceiling.new.0\nlink /log.ceiling\nsync \n";
+const OPENED: &str = "sync /log\nsync \n";
+const RAISED: &str = "write /log.ceiling.new\nsync /log.ceiling.new\nrename /log.ceiling\nsync \n";
+
+/// The name of a log's ceiling file, or of one beside it.
+fn beside(log: &Path, end: &str) -> PathBuf {
+    let mut name = log.as_os_str().to_os_string();
+    name.push(end);
+    name.into()
+}
+
+fn ceiling_of(log: &Path) -> PathBuf {
+    beside(log, ".ceiling")
+}
 
 /// A path of its own for each test, removed at the end.
 struct Scratch(PathBuf);
@@ -28,6 +45,7 @@ impl Scratch {
 
     fn remove(&self) {
         let _ = fs::remove_file(&self.0).or_else(|_| fs::remove_dir_all(&self.0));
+        let _ = fs::remove_file(ceiling_of(&self.0));
     }
 }
 
@@ -124,7 +142,8 @@ fn what_was_pushed_is_in_the_file() {
     let state = log.log().state();
     drop(log);
     let again = LogFile::open(&path.0, CAPACITY).unwrap();
-    assert_eq!((again.log().state(), again.cut_off()), (state, CutOff::default()));
+    assert_eq!(again.log().state(), State { next: 1_025, ceiling: 1_025, ..state });
+    assert_eq!(again.cut_off(), CutOff::default());
     assert_eq!(again.log().get(5).unwrap(), Some(vec![5; 2100]));
 }
 
@@ -140,12 +159,40 @@ fn a_refused_push_writes_what_came_before() {
     assert_eq!(log.log().bytes().len(), 1024);
 }
 
-/// How an opening that is to fail for the file's sake does.
-fn io_error(opened: Result<LogFile, Error>) -> io::Error {
-    match opened {
+/// How what is to fail for a file's sake does.
+fn io_error<T>(answer: Result<T, Error>) -> io::Error {
+    match answer {
         Err(Error::Io(error)) => error,
+        other => panic!("{:?}", other.map(|_| "well")),
+    }
+}
+
+/// Opens a log, or adopts it, which fails for its ceiling's sake, and leaves the log and its ceiling alone.
+fn ceiling_fault(path: &Path, open: impl FnOnce(&Path) -> Result<LogFile, Error>) -> (CeilingFault, String) {
+    let files = || [path, &ceiling_of(path)].map(|file| fs::read(file).ok());
+    let before = files();
+    match open(path) {
+        Err(Error::Ceiling(error)) => {
+            assert_eq!((&error.file, files()), (&ceiling_of(&fs::canonicalize(path).unwrap()), before));
+            (error.fault, error.to_string())
+        }
         other => panic!("{:?}", other.map(|log| log.log().state())),
     }
+}
+
+/// The same, where the ceiling is missing or damaged: the error says what to do.
+fn opening_fault(path: &Path) -> CeilingFault {
+    let (fault, said) = ceiling_fault(path, |path| LogFile::open(path, CAPACITY));
+    assert!(said.contains(".ceiling") && said.contains("LogFile::adopt"), "{said}");
+    fault
+}
+
+/// Puts bytes into a log's file, with a new log's ceiling beside it.
+fn write_log(path: &Path, bytes: &[u8]) {
+    if !path.exists() {
+        LogFile::open(path, CAPACITY).unwrap();
+    }
+    fs::write(path, bytes).unwrap();
 }
 
 /// A log of three entries in a store of two pages: the third is refused for room.
@@ -154,7 +201,7 @@ fn three_in_two_pages(path: &Scratch) -> (LogFile, [Entry; 3]) {
     let entries = ["one", "two", "three"].map(|data| Entry::new(log.take().unwrap(), data));
     let Err(Error::PushRefused(refused)) = log.push(&entries) else { panic!("not refused") };
     assert_eq!((refused.refusal, refused.written), (Refusal::NoRoom, 2));
-    assert_eq!(log.log().state(), State { length: 2048, last: 2, next: 4 });
+    assert_eq!(log.log().state(), State { length: 2048, last: 2, next: 4, ceiling: 1_025 });
     assert_eq!(fs::read(&path.0).unwrap(), log.log().bytes());
     (log, entries)
 }
@@ -173,23 +220,24 @@ fn what_was_refused_for_room_is_in_the_file_once_there_is_more() {
     assert_eq!(fs::read(&path.0).unwrap(), before);
     log.push(&entries[2..]).unwrap();
     let state = log.log().state();
-    assert_eq!(state, State { length: 3072, last: 3, next: 4 });
+    assert_eq!(state, State { length: 3072, last: 3, next: 4, ceiling: 1_025 });
     assert_eq!(fs::read(&path.0).unwrap(), log.log().bytes());
     drop(log);
     let again = LogFile::open(&path.0, CAPACITY).unwrap();
-    assert_eq!((again.log().state(), again.cut_off()), (state, CutOff::default()));
+    assert_eq!(again.log().state(), State { next: 1_025, ..state });
+    assert_eq!(again.cut_off(), CutOff::default());
     assert_eq!(entries_of(&again), entries);
 }
 
 #[test]
-fn after_a_restart_the_next_id_is_that_of_the_refused_entry() {
+fn after_a_restart_the_refused_entry_still_has_its_id() {
     let path = Scratch::new("restart");
     let (log, entries) = three_in_two_pages(&path);
     drop(log);
     let mut log = LogFile::open(&path.0, CAPACITY).unwrap();
-    assert_eq!(log.log().state(), State { length: 2048, last: 2, next: 3 });
+    assert_eq!(log.log().state(), State { length: 2048, last: 2, next: 1_025, ceiling: 1_025 });
     assert_eq!(entries_of(&log), entries[..2]);
-    assert_eq!(log.take(), Ok(entries[2].id));
+    assert_eq!(log.take().unwrap(), 1_025);
     log.push(&entries[2..]).unwrap();
     assert_eq!(entries_of(&log), entries);
     assert_eq!(fs::read(&path.0).unwrap(), log.log().bytes());
@@ -254,10 +302,10 @@ fn settled() -> [Entry; 2] {
 }
 
 /// Opens a log after what was settled, and an entry that did not fit: so much was cut off, and now the entry goes in.
-fn without_a_limit(path: &Path, beyond: u64) {
+fn without_a_limit(path: &Path, beyond: u64, next: u64) {
     let mut log = LogFile::open(path, CAPACITY).unwrap();
     assert_eq!(log.cut_off(), CutOff { excess: beyond % 1024, dropped: beyond / 1024 });
-    assert_eq!(log.log().state(), State { length: 2048, last: 2, next: 3 });
+    assert_eq!(log.log().state(), State { length: 2048, last: 2, next, ceiling: next });
     assert_eq!(entries_of(&log), settled());
     assert_eq!(fs::read(path).unwrap(), log.log().bytes());
     let long = long(log.take().unwrap());
@@ -276,7 +324,7 @@ fn an_entry_stopped_by_a_file_size_limit_is_cut_back() {
         log.push(&settled()).unwrap();
         let (two, id) = ([log.take().unwrap(), log.take().unwrap()], log.take().unwrap());
         let before = log.log().state();
-        assert_eq!((two, before), ([1, 2], State { length: 2048, last: 2, next: 4 }));
+        assert_eq!((two, before), ([1, 2], State { length: 2048, last: 2, next: 4, ceiling: 1_025 }));
         match log.push(&[long(id)]) {
             Err(Error::Io(error)) => assert_eq!(error.kind(), io::ErrorKind::FileTooLarge),
             other => panic!("{other:?}"),
@@ -294,11 +342,11 @@ fn an_entry_stopped_by_a_file_size_limit_is_cut_back() {
     let log = recorder.folder.join("log");
     let test = "an_entry_stopped_by_a_file_size_limit_is_cut_back";
     let asked = recorder.run_again(test, &log, &format!("trap '' XFSZ; {LIMIT}"));
-    let opened_and_pushed = "sync /log\nsync \nwrite /log\nsync /log\n";
+    let pushed = "write /log\nsync /log\n";
     let stopped = "write /log\nwrite /log\ncut /log\nsync /log\n"; // the first write is cut short, the second fails
-    assert_eq!(asked, format!("{opened_and_pushed}{stopped}"));
+    assert_eq!(asked, format!("{MADE}{OPENED}{pushed}{RAISED}{stopped}"));
     assert_eq!(fs::metadata(&log).unwrap().len(), 2048);
-    without_a_limit(&log, 0);
+    without_a_limit(&log, 0, 1_025);
 }
 
 /// A process that is killed in the middle of a write, here by the limit's signal: nobody cuts back what it wrote, and
@@ -316,14 +364,14 @@ fn an_entry_whose_writer_was_killed_is_dropped() {
     let (test, first) = ("an_entry_whose_writer_was_killed_is_dropped", format!("ulimit -c 0; {LIMIT}"));
     let (ran, asked) = recorder.run(test, &log, &first, ("RECORD_SIGXFSZ", "kills"));
     assert_eq!(ran.status.signal(), Some(25)); // SIGXFSZ
-    assert_eq!(asked, "sync /log\nsync \nwrite /log\nsync /log\nwrite /log\nwrite /log\n");
+    assert_eq!(asked, format!("{MADE}{OPENED}write /log\nsync /log\nwrite /log\nwrite /log\n"));
     let beyond = fs::metadata(&log).unwrap().len() - 2048;
     assert!([2_560, 7_168].contains(&beyond));
-    without_a_limit(&log, beyond);
+    without_a_limit(&log, beyond, 3);
 }
 
-/// The real file's own syncs, in their order: at an opening of the file and of the folder that it is in, after a cut,
-/// and after each push.
+/// The real files' own syncs, in their order: at a first opening of the ceiling and of the folder, before there is a
+/// log; at each of the log and of the folder that it is in; after a cut; for the first id; and after each push.
 #[test]
 fn the_file_and_its_folder_are_synced() {
     if let Some(path) = own_process() {
@@ -338,14 +386,38 @@ fn the_file_and_its_folder_are_synced() {
     let (log, link) = (recorder.folder.join("log"), recorder.folder.join("../link"));
     std::os::unix::fs::symlink(&log, &link).unwrap();
     let recorded = || recorder.run_again("the_file_and_its_folder_are_synced", &link, "");
-    let push = "write /log\nsync /log\n";
-    assert_eq!(recorded(), format!("sync /log\nsync \n{push}{push}"));
+    let (push, cut) = ("write /log\nsync /log\n", "cut /log\nsync /log\n");
+    assert_eq!(recorded(), format!("{MADE}{OPENED}{RAISED}{push}{push}"));
     fs::File::options().write(true).open(&log).unwrap().set_len(5 * 1024 + 5).unwrap();
-    assert_eq!(recorded(), format!("sync /log\nsync \ncut /log\nsync /log\n{push}{push}"));
-    assert_eq!(recorded(), format!("sync /log\nsync \n{push}{push}"));
+    assert_eq!(recorded(), format!("{OPENED}{cut}{RAISED}{push}{push}"));
+    assert_eq!(recorded(), format!("{OPENED}{RAISED}{push}{push}"));
+    fs::remove_file(&log).unwrap();
+    assert_eq!(recorded(), format!("sync \n{OPENED}{RAISED}{push}{push}")); // the ceiling is there
 }
 
-/// An opening fails where the file, its folder or the file that was cut is not synced, and nothing more is asked then.
+/// An id costs no sync but where the ceiling is raised: once for 1,024 of them.
+#[test]
+fn the_ceiling_is_synced_once_for_a_step() {
+    if let Some(path) = own_process() {
+        let mut log = LogFile::open(path, CAPACITY).unwrap();
+        let first = log.log().state().next;
+        for id in first..first + 2_049 {
+            assert_eq!(log.take().unwrap(), id);
+        }
+        log.set_step(2).unwrap();
+        for _ in 0..1_023 + 3 {
+            log.take().unwrap();
+        }
+        return;
+    }
+    let recorder = Recorder::new("step");
+    let recorded = || recorder.run_again("the_ceiling_is_synced_once_for_a_step", &recorder.folder.join("log"), "");
+    assert_eq!(recorded(), format!("{MADE}{OPENED}{}", RAISED.repeat(3 + 2)));
+    assert_eq!(recorded(), format!("{OPENED}{}", RAISED.repeat(3 + 2)));
+}
+
+/// An opening fails where a file, its folder or the file that was cut is not synced, and nothing more is asked then. A
+/// log is not made before its ceiling is well.
 #[test]
 fn a_disk_that_does_not_sync_is_not_opened() {
     if let Some(path) = own_process() {
@@ -357,16 +429,52 @@ fn a_disk_that_does_not_sync_is_not_opened() {
     let recorder = Recorder::new("unsynced");
     let log = recorder.folder.join("log");
     let asked = |fails| recorder.run_failing("a_disk_that_does_not_sync_is_not_opened", &log, "", fails);
-    for there in [false, true] {
-        assert_eq!(asked("sync /log"), "sync /log\n");
-        if !there {
-            fs::remove_file(&log).unwrap();
-        }
-        assert_eq!(asked("sync "), "sync /log\nsync \n");
+    let mut all = String::new();
+    for line in MADE.lines() {
+        all = format!("{all}{line}\n");
+        assert_eq!(asked(line), all);
+        assert!(!log.exists() && !beside(&log, ".ceiling.new.0").exists());
     }
+    assert_eq!(asked("sync "), "sync \n");
+    assert!(!log.exists());
+    assert_eq!(asked("sync /log"), "sync \nsync /log\n");
+    assert_eq!(asked("sync /log"), "sync /log\n");
+    assert_eq!(asked("sync "), "sync /log\nsync \n");
     fs::write(&log, [1; 1023]).unwrap();
     assert_eq!(asked("cut /log"), "sync /log\nsync \ncut /log\n");
     assert_eq!(fs::metadata(&log).unwrap().len(), 1023);
+}
+
+/// A ceiling that cannot be stored: no id is handed out, and each take tries again from the start.
+#[test]
+fn an_id_whose_ceiling_is_not_stored_is_not_handed_out() {
+    if let Some(path) = own_process() {
+        let mut log = LogFile::open(path, CAPACITY).unwrap();
+        let before = log.log().state();
+        env::set_var("RECORD_FAILS", env::var_os("TAKE_FAILS").unwrap());
+        for _ in 0..2 {
+            match log.take() {
+                Err(Error::Io(error)) => assert!(error.to_string().contains("log.ceiling could not be stored: ")),
+                other => panic!("{other:?}"),
+            }
+            assert_eq!(log.log().state(), before);
+        }
+        env::remove_var("RECORD_FAILS");
+        assert_eq!(log.take().unwrap(), before.next);
+        return;
+    }
+    let recorder = Recorder::new("unstored");
+    let log = recorder.folder.join("log");
+    LogFile::open(&log, CAPACITY).unwrap().push(&settled()).unwrap();
+    let (test, mut all) = ("an_id_whose_ceiling_is_not_stored_is_not_handed_out", String::new());
+    for (line, next) in RAISED.lines().zip((3..).step_by(1_024)) {
+        assert_eq!(LogFile::open(&log, CAPACITY).unwrap().log().state().next, next);
+        all = format!("{all}{line}\n");
+        let (ran, asked) = recorder.run(test, &log, "", ("TAKE_FAILS", line));
+        assert_passed(&ran);
+        assert_eq!(asked, format!("{OPENED}{all}{all}{RAISED}"));
+        assert!(!beside(&log, ".ceiling.new").exists());
+    }
 }
 
 /// For a process that modes bind: if this is root's, one of another user's.
@@ -376,13 +484,44 @@ fn a_folder_that_may_not_be_read() {
         let mut log = LogFile::open(&path, CAPACITY).unwrap();
         assert_eq!(entries_of(&log), settled());
         log.push(&[Entry::new(3, "three")]).unwrap();
-        let error = io_error(LogFile::open(path.with_file_name("new"), CAPACITY));
-        assert_eq!(error.kind(), io::ErrorKind::PermissionDenied);
-        assert!(error.to_string().contains("the folder that the log is in could not be synced"), "{error}");
+        let new = path.with_file_name("new");
+        for error in [io_error(log.take()), io_error(LogFile::open(&new, CAPACITY))] {
+            assert_eq!(error.kind(), io::ErrorKind::PermissionDenied);
+            assert!(error.to_string().contains("the folder that the log is in could not be synced"), "{error}");
+        }
+        assert!(!new.exists());
         return;
     }
+    in_a_folder_of_mode(0o300, "a_folder_that_may_not_be_read");
+}
+
+/// What is there is opened and pushed to; ids are handed out once the ceiling can be stored.
+#[test]
+fn a_folder_that_may_not_be_written() {
+    if let Some(path) = own_process() {
+        let mut log = LogFile::open(&path, CAPACITY).unwrap();
+        assert_eq!(entries_of(&log), settled());
+        log.push(&[Entry::new(3, "three")]).unwrap();
+        let before = log.log().state();
+        let new = path.with_file_name("new");
+        for error in [io_error(log.take()), io_error(log.take()), io_error(LogFile::open(&new, CAPACITY))] {
+            assert_eq!(error.kind(), io::ErrorKind::PermissionDenied);
+            assert!(error.to_string().contains(".ceiling could not be "), "{error}");
+        }
+        assert_eq!(log.log().state(), before);
+        assert!(!new.exists() && !ceiling_of(&new).exists());
+        let folder = path.parent().unwrap();
+        fs::set_permissions(folder, fs::Permissions::from_mode(0o700)).unwrap();
+        assert_eq!(log.take().unwrap(), 3);
+        return;
+    }
+    in_a_folder_of_mode(0o500, "a_folder_that_may_not_be_written");
+}
+
+/// Runs a test again for a log in such a folder, to which it adds a page, in a process that modes bind.
+fn in_a_folder_of_mode(mode: u32, test: &str) {
     const NOBODY: u32 = 65_534;
-    let scratch = Scratch::new("unread");
+    let scratch = Scratch::new(test);
     let folder = scratch.0.join("folder");
     let log = folder.join("log");
     let set_mode = |path: &Path, mode| fs::set_permissions(path, fs::Permissions::from_mode(mode)).unwrap();
@@ -390,14 +529,14 @@ fn a_folder_that_may_not_be_read() {
     set_mode(&scratch.0, 0o755);
     LogFile::open(&log, CAPACITY).unwrap().push(&settled()).unwrap();
     let mut again = Command::new(env::current_exe().unwrap());
-    again.args(["--exact", "a_folder_that_may_not_be_read"]).env(OWN_PROCESS, &log);
+    again.args(["--exact", test]).env(OWN_PROCESS, &log);
     if fs::metadata("/proc/self").unwrap().uid() == 0 {
-        for path in [&folder, &log] {
+        for path in [&folder, &log, &ceiling_of(&log)] {
             chown(path, Some(NOBODY), None).unwrap();
         }
         again.uid(NOBODY);
     }
-    set_mode(&folder, 0o300);
+    set_mode(&folder, mode);
     let ran = again.output();
     set_mode(&folder, 0o700);
     match ran {
@@ -405,7 +544,7 @@ fn a_folder_that_may_not_be_read() {
             assert_passed(&ran);
             assert_eq!(fs::metadata(&log).unwrap().len(), 3072);
         }
-        Err(error) => left_out(&format!("a folder that may not be read: as another user than root: {error}")),
+        Err(error) => left_out(&format!("{test}: as another user than root: {error}")),
     }
 }
 
@@ -431,7 +570,7 @@ fn what_the_library_refuses_is_left_alone() {
         (vec![0; 2048], Refusal::NoEntries { page: 0 }),
         (short, Refusal::ShortEntry { page: 1 }),
     ] {
-        fs::write(&path.0, &bytes).unwrap();
+        write_log(&path.0, &bytes);
         match LogFile::open(&path.0, CAPACITY) {
             Err(Error::Refused(r)) => assert_eq!(r, refusal),
             other => panic!("{:?}", other.map(|log| log.log().state())),
@@ -453,7 +592,7 @@ fn what_has_no_whole_entry_is_a_torn_log_and_is_emptied() {
         (vec![1; 2500], 452, 2),
         (long, 0, 4), // a start of 16,711,680 bytes
     ] {
-        fs::write(&path.0, &bytes).unwrap();
+        write_log(&path.0, &bytes);
         let log = LogFile::open(&path.0, CAPACITY).unwrap();
         assert_eq!((log.log().state(), log.cut_off()), (State::fresh(), CutOff { excess, dropped }));
         assert_eq!(log.cut_off().bytes(), bytes.len() as u64);
@@ -472,7 +611,7 @@ fn damage_to_the_last_length_is_reported_as_cut_off() {
     bytes[2050] ^= 4; // 1,037 bytes of payload, so two pages
     fs::write(&path.0, &bytes).unwrap();
     let log = LogFile::open(&path.0, CAPACITY).unwrap();
-    assert_eq!(log.log().state(), State { length: 2048, last: 2, next: 3 });
+    assert_eq!(log.log().state(), State { length: 2048, last: 2, next: 3, ceiling: 3 });
     assert_eq!(log.cut_off(), CutOff { excess: 0, dropped: 1 });
     assert_eq!(entries_of(&log), entries[..2]);
     assert_eq!(fs::read(&path.0).unwrap(), bytes[..2048]);
@@ -496,6 +635,7 @@ fn a_file_that_outgrew_the_capacity_is_opened() {
 #[test]
 fn a_file_longer_than_any_store_is_refused_and_left_alone() {
     let path = Scratch::new("longest");
+    write_log(&path.0, &[]);
     fs::File::create(&path.0).unwrap().set_len((1 << 31) + 1).unwrap();
     assert!(matches!(LogFile::open(&path.0, CAPACITY), Err(Error::Refused(Refusal::BadState))));
     assert_eq!(fs::metadata(&path.0).unwrap().len(), (1 << 31) + 1);
@@ -506,6 +646,7 @@ fn a_file_longer_than_any_store_is_refused_and_left_alone() {
 fn a_file_longer_than_memory_is_an_error_and_left_alone() {
     const LENGTH: u64 = 4 << 40;
     let path = Scratch::new("endless");
+    write_log(&path.0, &[]);
     if let Err(error) = fs::File::create(&path.0).unwrap().set_len(LENGTH) {
         return left_out(&format!("a file of 4 TiB: {error}"));
     }
@@ -523,6 +664,217 @@ fn one_writer_at_a_time() {
     let path = Scratch::new("lock");
     let _first = LogFile::open(&path.0, CAPACITY).unwrap();
     assert!(matches!(LogFile::open(&path.0, CAPACITY), Err(Error::Io(_))));
+    fs::remove_file(ceiling_of(&path.0)).unwrap();
+    assert!(matches!(LogFile::open(&path.0, CAPACITY), Err(Error::Io(_))));
+    assert!(matches!(LogFile::adopt(&path.0, CAPACITY, 9), Err(Error::Io(_))));
+    assert!(!ceiling_of(&path.0).exists());
+}
+
+/// Whichever of them makes the log, and whoever opens it after that: some fail as another has the lock.
+#[test]
+fn a_log_that_many_make_at_once_hands_each_id_out_once() {
+    for round in 0..20 {
+        let path = Scratch::new(&format!("many-{round}"));
+        let all_ready = std::sync::Barrier::new(4);
+        let ids = std::thread::scope(|threads| {
+            let make = || {
+                all_ready.wait();
+                loop {
+                    match LogFile::open(&path.0, CAPACITY) {
+                        Ok(mut log) => return log.take().unwrap(),
+                        opened => assert_eq!(io_error(opened).kind(), io::ErrorKind::WouldBlock),
+                    }
+                }
+            };
+            let threads = [(); 4].map(|()| threads.spawn(make));
+            threads.map(|thread| thread.join().unwrap())
+        });
+        assert_eq!(BTreeSet::from(ids), BTreeSet::from([1, 1_025, 2_049, 3_073]));
+    }
+}
+
+#[test]
+fn a_dropped_id_is_not_handed_out_after_a_restart() {
+    let path = Scratch::new("dropped");
+    let mut log = LogFile::open(&path.0, CAPACITY).unwrap();
+    assert_eq!(fs::read_to_string(ceiling_of(&path.0)).unwrap(), "awirbesh ceiling 1 check b45f65fb3991892c\n");
+    let (build, what_if) = (log.take().unwrap(), log.take().unwrap());
+    assert_eq!(fs::read_to_string(ceiling_of(&path.0)).unwrap(), "awirbesh ceiling 1025 check 66194f6502b87a45\n");
+    log.push(&[Entry::new(build, "one")]).unwrap();
+    drop(log);
+
+    let mut log = LogFile::open(&path.0, CAPACITY).unwrap();
+    assert_eq!(log.log().state(), State { length: 1024, last: 1, next: 1_025, ceiling: 1_025 });
+    assert_eq!(log.take().unwrap(), 1_025);
+    log.push(&[Entry::new(1_025, "two")]).unwrap();
+    assert_eq!((log.log().get(what_if).unwrap(), log.log().get(1_025).unwrap()), (None, Some(b"two".to_vec())));
+    fs::remove_file(&path.0).unwrap();
+    drop(log);
+    assert_eq!(LogFile::open(&path.0, CAPACITY).unwrap().take().unwrap(), 2_049);
+    // though the log is gone
+}
+
+#[test]
+fn a_small_step_leaves_few_ids_out() {
+    let path = Scratch::new("small-step");
+    let take_three = |step| {
+        let mut log = LogFile::open(&path.0, CAPACITY).unwrap();
+        log.set_step(step).unwrap();
+        for bad in [0, (1 << 32) + 1, u64::MAX] {
+            assert_eq!(log.set_step(bad), Err(Refusal::BadRaise)); // and the step stays
+        }
+        [(); 3].map(|()| log.take().unwrap())
+    };
+    assert_eq!([take_three(1), take_three(2), take_three(3)], [[1, 2, 3], [4, 5, 6], [8, 9, 10]]);
+    assert_eq!([take_three(1 << 32), take_three(1)], [[11, 12, 13], [11, 12, 13].map(|id| id + (1 << 32))]);
+}
+
+/// Up to the last id, 2^64-2, and no further: the step is no hindrance.
+#[test]
+fn the_last_ids_are_handed_out() {
+    let path = Scratch::new("last");
+    fs::write(&path.0, []).unwrap();
+    let mut log = LogFile::adopt(&path.0, CAPACITY, u64::MAX - 3).unwrap();
+    log.set_step(2).unwrap();
+    assert_eq!([(); 3].map(|()| log.take().unwrap()), [u64::MAX - 3, u64::MAX - 2, u64::MAX - 1]);
+    assert!(fs::read_to_string(ceiling_of(&path.0)).unwrap().contains(&format!(" {} ", u64::MAX)));
+    for _ in 0..2 {
+        assert!(matches!(log.take(), Err(Error::Refused(Refusal::IdsUsedUp))));
+        drop(log);
+        log = LogFile::open(&path.0, CAPACITY).unwrap();
+    }
+}
+
+#[test]
+fn a_log_without_a_ceiling_file_is_not_opened() {
+    let path = Scratch::new("missing");
+    for bytes in [&[][..], b"torn", &one_entry()] {
+        fs::write(&path.0, bytes).unwrap();
+        assert_eq!(opening_fault(&path.0), CeilingFault::Missing);
+    }
+    // A log that is moved leaves its ceiling behind.
+    let moved = Scratch::new("moved");
+    LogFile::adopt(&path.0, CAPACITY, 5).unwrap();
+    fs::rename(&path.0, &moved.0).unwrap();
+    assert_eq!(opening_fault(&moved.0), CeilingFault::Missing);
+    fs::rename(ceiling_of(&path.0), ceiling_of(&moved.0)).unwrap();
+    assert_eq!(LogFile::open(&moved.0, CAPACITY).unwrap().take().unwrap(), 5);
+}
+
+/// A log with the entry 1.
+fn one_entry() -> Vec<u8> {
+    let mut log = Log::with_capacity(1024);
+    log.push(&[Entry::new(1, "one")]).unwrap();
+    log.bytes().to_vec()
+}
+
+/// Every byte with every other value: `any_byte_changed_is_damage` of src/ceiling.rs.
+#[test]
+fn a_log_with_a_damaged_ceiling_file_is_not_opened() {
+    let path = Scratch::new("damaged-ceiling");
+    write_log(&path.0, &one_entry());
+    let ceiling = ceiling_of(&path.0);
+    let line = fs::read(&ceiling).unwrap();
+    let mut damaged: Vec<Vec<u8>> = (0..line.len()).map(|length| line[..length].to_vec()).collect();
+    for at in 0..line.len() {
+        for bit in [1, 4, 128] {
+            damaged.push(line.clone());
+            damaged.last_mut().unwrap()[at] ^= bit;
+        }
+    }
+    damaged.extend([[&line[..], b"\n"].concat(), [&line[..], &line[..]].concat(), one_entry(), b"1025\n".to_vec()]);
+    for bytes in damaged {
+        fs::write(&ceiling, &bytes).unwrap();
+        assert_eq!(opening_fault(&path.0), CeilingFault::Damaged, "{}", String::from_utf8_lossy(&bytes));
+    }
+    fs::File::create(&ceiling).unwrap().set_len(1 << 40).unwrap(); // read no further than a ceiling is long
+    match LogFile::open(&path.0, CAPACITY) {
+        Err(Error::Ceiling(error)) => assert_eq!(error.fault, CeilingFault::Damaged),
+        other => panic!("{:?}", other.map(|log| log.log().state())),
+    }
+    fs::remove_file(&ceiling).unwrap();
+    assert!(Command::new("mkfifo").arg(&ceiling).status().unwrap().success());
+    assert!(matches!(LogFile::open(&path.0, CAPACITY), Err(Error::Ceiling(_)))); // and waits for no writer
+    assert_eq!(LogFile::adopt(&path.0, CAPACITY, 9).unwrap().take().unwrap(), 9);
+    assert_eq!(fs::read(&path.0).unwrap(), one_entry());
+}
+
+#[test]
+fn a_log_from_before_is_adopted() {
+    let path = Scratch::new("adopted");
+    for (ceiling, next) in [(0, 2), (1, 2), (2, 2), (10, 10)] {
+        let _ = fs::remove_file(ceiling_of(&path.0));
+        fs::write(&path.0, one_entry()).unwrap();
+        let log = LogFile::adopt(&path.0, CAPACITY, ceiling).unwrap();
+        assert_eq!(log.log().state(), State { length: 1024, last: 1, next, ceiling: next });
+        drop(log);
+        let adopt_again = |path: &Path| LogFile::adopt(path, CAPACITY, 99);
+        let (fault, said) = ceiling_fault(&path.0, adopt_again);
+        assert_eq!(fault, CeilingFault::Intact);
+        assert!(said.contains("LogFile::open"), "{said}");
+        assert_eq!(LogFile::open(&path.0, CAPACITY).unwrap().take().unwrap(), next);
+    }
+    // What the library refuses is left without a ceiling.
+    fs::remove_file(ceiling_of(&path.0)).unwrap();
+    fs::write(&path.0, [9; 1024]).unwrap();
+    assert!(matches!(LogFile::adopt(&path.0, CAPACITY, 0), Err(Error::Refused(Refusal::BadMark { page: 0 }))));
+    assert!(!ceiling_of(&path.0).exists());
+}
+
+/// The ceiling is where the log is, also for a log that is made through a link, and nothing is where the link is.
+#[test]
+fn a_linked_log_has_its_ceiling_beside_it() {
+    let scratch = Scratch::new("linked");
+    let (kept, links) = (scratch.0.join("kept"), scratch.0.join("links"));
+    fs::create_dir_all(&kept).unwrap();
+    fs::create_dir_all(&links).unwrap();
+    let (log, link, to_link) = (kept.join("log"), links.join("link"), links.join("to-link"));
+    std::os::unix::fs::symlink("../kept/log", &link).unwrap();
+    std::os::unix::fs::symlink(&link, &to_link).unwrap();
+    for (path, id) in [(&to_link, 1), (&link, 1_025), (&log, 2_049)] {
+        assert_eq!(LogFile::open(path, CAPACITY).unwrap().take().unwrap(), id);
+        assert!(log.is_file() && ceiling_of(&log).is_file());
+    }
+    let names = |folder| {
+        let names = fs::read_dir(folder).unwrap().map(|name| name.unwrap().file_name().into_string().unwrap());
+        names.collect::<BTreeSet<_>>()
+    };
+    assert_eq!(names(&links), ["link", "to-link"].map(String::from).into());
+    assert_eq!(names(&kept), ["log", "log.ceiling"].map(String::from).into());
+    fs::remove_file(ceiling_of(&log)).unwrap();
+    match LogFile::open(&link, CAPACITY) {
+        Err(Error::Ceiling(error)) => assert_eq!(error.file, ceiling_of(&fs::canonicalize(&log).unwrap())),
+        other => panic!("{:?}", other.map(|log| log.log().state())),
+    }
+    std::os::unix::fs::symlink("loop", links.join("loop")).unwrap();
+    for nowhere in [links.join("loop"), links.join("none/log"), PathBuf::new(), PathBuf::from("/")] {
+        io_error(LogFile::open(nowhere, CAPACITY));
+    }
+}
+
+/// What a crash left of a ceiling that was on the way is neither read nor in the way, even if it is the ceiling's own
+/// file under a second name.
+#[test]
+fn new_ceilings_that_a_crash_left_do_no_harm() {
+    let path = Scratch::new("left");
+    let left = [".ceiling.new", ".ceiling.new.0", ".ceiling.new.1"].map(|end| beside(&path.0, end));
+    for file in &left {
+        fs::write(file, "awirbesh ceiling 7").unwrap();
+    }
+    assert_eq!(LogFile::open(&path.0, CAPACITY).unwrap().take().unwrap(), 1);
+    let kept = beside(&path.0, ".kept");
+    for second_name in [&left[0], &kept] {
+        fs::hard_link(ceiling_of(&path.0), second_name).unwrap();
+    }
+    assert_eq!(LogFile::open(&path.0, CAPACITY).unwrap().take().unwrap(), 1_025);
+    let line = "awirbesh ceiling 1025 check 66194f6502b87a45\n"; // of the first id, and not written over
+    assert_eq!(fs::read_to_string(&kept).unwrap(), line);
+    fs::remove_file(kept).unwrap();
+    assert!(!left[0].exists());
+    for file in &left[1..] {
+        assert_eq!(fs::read_to_string(file).unwrap(), "awirbesh ceiling 7");
+        fs::remove_file(file).unwrap();
+    }
 }
 
 #[test]
