@@ -68,7 +68,7 @@ fn checksum(text: &[u8]) -> u64 {
 }
 
 /// The ceiling that is stored, or what is wrong with it.
-pub(crate) fn read(disk: &mut dyn Disk) -> io::Result<Result<u64, CeilingFault>> {
+fn read(disk: &mut dyn Disk) -> io::Result<Result<u64, CeilingFault>> {
     Ok(match disk.read_ceiling().map_err(|error| failed("read", disk, error))? {
         None => Err(CeilingFault::Missing),
         Some(bytes) => ceiling_in(&bytes).ok_or(CeilingFault::Damaged),
@@ -82,8 +82,21 @@ fn failed(what: &str, disk: &dyn Disk, error: io::Error) -> io::Error {
 }
 
 /// What is wrong with the ceiling, as the error of an opening.
-pub(crate) fn error(disk: &dyn Disk, fault: CeilingFault) -> Error {
+fn error(disk: &dyn Disk, fault: CeilingFault) -> Error {
     Error::Ceiling(CeilingError { file: disk.ceiling_path().to_path_buf(), fault })
+}
+
+/// The ceiling of a log that is opened.
+pub(crate) fn stored(disk: &mut dyn Disk) -> Result<u64, Error> {
+    read(disk)?.map_err(|fault| error(disk, fault))
+}
+
+/// For a log that is to be adopted.
+pub(crate) fn refuse_intact(disk: &mut dyn Disk) -> Result<(), Error> {
+    match read(disk)? {
+        Ok(_) => Err(error(disk, CeilingFault::Intact)),
+        Err(_) => Ok(()),
+    }
 }
 
 /// Stores a ceiling in place of the one before: once it returns, no power failure brings that back.

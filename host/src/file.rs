@@ -4,7 +4,7 @@ use crate::{
     ceiling,
     disk::{Disk, Files},
     log::{test_store, zeros},
-    CeilingError, CeilingFault, CutOff, Entry, Log, PushRefused, Refusal, State,
+    CeilingError, CutOff, Entry, Log, PushRefused, Refusal, State,
 };
 
 /// What can go wrong with a log in a file: the library refuses, the log's ceiling is not known, or a file does not do
@@ -52,7 +52,8 @@ const STEP: u64 = 1_024;
 /// Beside the log stands its ceiling file, in the folder where the log really is and with `.ceiling` appended to the
 /// log's name: one line of text, the number below which ids may have been handed out. So an id that was handed out
 /// stays used, whether or not it was pushed, across restarts and power failures. The two files belong together: move
-/// them together, and know that an older copy of them hands ids out again.
+/// them together, and know that an older copy of them hands ids out again. Of a log with two hard links only the name
+/// that it was made under has the ceiling.
 #[derive(Debug)]
 pub struct LogFile {
     disk: Box<dyn Disk>,
@@ -93,7 +94,7 @@ impl LogFile {
             disk.make()?;
         }
         // Only now, under the lock, is the ceiling the one that was stored last.
-        let stored = ceiling::read(&mut *disk)?.map_err(|fault| ceiling::error(&*disk, fault))?;
+        let stored = ceiling::stored(&mut *disk)?;
         LogFile::recover(disk, capacity, stored)
     }
 
@@ -110,11 +111,11 @@ impl LogFile {
 
     pub(crate) fn adopt_on(mut disk: Box<dyn Disk>, capacity: usize, ceiling: u64) -> Result<LogFile, Error> {
         if !disk.open()? {
+            ceiling::refuse_intact(&mut *disk)?;
             disk.make()?;
         }
-        if ceiling::read(&mut *disk)?.is_ok() {
-            return Err(ceiling::error(&*disk, CeilingFault::Intact));
-        }
+        // Once more under the lock: another process may have made the log just now.
+        ceiling::refuse_intact(&mut *disk)?;
         let mut log = LogFile::recover(disk, capacity, ceiling)?;
         ceiling::store(&mut *log.disk, log.log.state().ceiling)?;
         Ok(log)

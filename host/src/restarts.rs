@@ -207,35 +207,47 @@ fn no_id_comes_twice_in_a_long_life() {
     assert!(handed_out > 5_000 && dropped > 1_000, "{handed_out} handed out, {dropped} dropped");
 }
 
-/// Another process opens the log, and makes it where it is not there yet, takes ids and is gone: before any operation
-/// of an opening. From when on this one has the lock the other has none.
+/// What another process does at the same time: it opens the log, or makes it, takes two ids, pushes one and is gone. It
+/// does nothing if it does not get the lock.
+fn other(disk: &Simulated) {
+    if let Ok(mut log) = open(disk) {
+        let ids = [log.take().unwrap(), log.take().unwrap()];
+        log.push(&[entry(ids[0], 1)]).unwrap();
+    }
+}
+
+/// Before any operation of an opening; of an adoption, where it makes a log.
 #[test]
-fn another_process_may_make_the_log_at_the_same_time() {
-    fn other(disk: &Simulated) {
-        if let Ok(mut log) = open(disk) {
-            let ids = [log.take().unwrap(), log.take().unwrap()];
-            log.push(&[entry(ids[0], 1)]).unwrap();
+fn another_process_may_open_the_log_at_the_same_time() {
+    // With nothing on the disk the lock comes with the seventh operation, that makes the log; else with the first.
+    for (beginning, before_the_lock) in [(Simulated::new(), 7), (Simulated::with(&[], 1), 1)] {
+        let alone = beginning.restart(0);
+        open(&alone).unwrap();
+        for operation in 0..alone.operations() {
+            let _case = Case(format!("before operation {operation}"));
+            let disk = beginning.restart(0);
+            disk.set_meanwhile(operation, other);
+            let mut log = open(&disk).unwrap();
+            let id = log.take().unwrap();
+            match operation < before_the_lock {
+                true => assert_eq!((entries_of(&log), id), (vec![entry(1, 1)], 1_025)),
+                false => assert_eq!((entries_of(&log), id), (vec![], 1)),
+            }
+            drop(log);
+            assert_eq!(open(&disk.restart(0)).unwrap().take().unwrap(), id + 1_024);
         }
     }
-    let alone = Simulated::new();
-    open(&alone).unwrap();
-    let mut came_first = 0;
-    for operation in 0..alone.operations() {
-        let _case = Case(format!("before operation {operation}"));
+    // The third operation makes the log.
+    for operation in 0..4 {
         let disk = Simulated::new();
         disk.set_meanwhile(operation, other);
-        let mut log = open(&disk).unwrap();
-        let id = log.take().unwrap();
-        if entries_of(&log).is_empty() {
-            assert_eq!(id, 1);
-        } else {
-            came_first += 1;
-            assert_eq!((entries_of(&log), id), (vec![entry(1, 1)], 1_025));
+        let adopted = LogFile::adopt_on(disk.handle(), CAPACITY, 5);
+        match operation < 3 {
+            true => assert_eq!(fault_of(adopted), CeilingFault::Intact),
+            false => assert_eq!(adopted.unwrap().take().unwrap(), 5),
         }
-        drop(log);
-        assert!(open(&disk.restart(0)).unwrap().take().unwrap() > id);
+        assert_eq!(open(&disk).unwrap().take().unwrap(), if operation < 3 { 1_025 } else { 1_029 });
     }
-    assert!((7..alone.operations()).contains(&came_first), "{came_first} of {}", alone.operations());
 }
 
 fn fault_of<T: std::fmt::Debug>(opened: Result<T, Error>) -> CeilingFault {
@@ -283,6 +295,8 @@ fn a_ceiling_without_its_log() {
     assert_eq!(disk.operations(), 2);
     assert_eq!(LogFile::adopt_on(disk.handle(), CAPACITY, 9).unwrap().take().unwrap(), 9);
     let disk = Simulated::holding(None, Some(ceiling::line(9).as_bytes()));
+    assert_eq!(fault_of(LogFile::adopt_on(disk.handle(), CAPACITY, 5)), CeilingFault::Intact);
+    assert_eq!(disk.operations(), 2);
     assert_eq!(open(&disk).unwrap().take().unwrap(), 9);
 }
 

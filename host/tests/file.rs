@@ -807,6 +807,7 @@ fn a_log_from_before_is_adopted() {
         fs::write(&path.0, one_entry()).unwrap();
         let log = LogFile::adopt(&path.0, CAPACITY, ceiling).unwrap();
         assert_eq!(log.log().state(), State { length: 1024, last: 1, next, ceiling: next });
+        assert!(fs::read_to_string(ceiling_of(&path.0)).unwrap().contains(&format!(" {next} ")));
         drop(log);
         let adopt_again = |path: &Path| LogFile::adopt(path, CAPACITY, 99);
         let (fault, said) = ceiling_fault(&path.0, adopt_again);
