@@ -289,4 +289,23 @@ mod tests {
             assert!(error.to_string().contains("the folder that the log is in could not be synced"));
         }
     }
+
+    /// Two processes that make a log at once, step by step beside each other: the first ceiling that is linked stays.
+    #[test]
+    fn a_link_does_not_replace() {
+        let folder = std::env::temp_dir().join(format!("awirbesh-{}-links", std::process::id()));
+        fs::create_dir(&folder).unwrap();
+        let mut both = [(); 2].map(|()| Files::at(&folder.join("log")).unwrap());
+        for (files, bytes) in both.iter_mut().zip([b"first", b"later"]) {
+            assert!(!files.open().unwrap());
+            files.write_new(bytes).unwrap();
+        }
+        for files in &mut both {
+            files.sync_new().unwrap();
+            files.link_new().unwrap();
+            assert_eq!(files.read_ceiling().unwrap(), Some(b"first".to_vec()));
+        }
+        assert_eq!(fs::read_dir(&folder).unwrap().count(), 1); // the names of their own are gone
+        fs::remove_dir_all(&folder).unwrap();
+    }
 }
