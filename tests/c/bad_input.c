@@ -9,6 +9,7 @@
  * below the last id + 1, did not come up at all.
  */
 #include "awirbesh.h"
+#include "chance.h"
 #include "model.h"
 
 #include <stdio.h>
@@ -20,26 +21,6 @@
 enum { PAGE = 1024, LARGE_DATA = 16777209 };
 
 /* ---- chance ---- */
-
-static uint64_t chance_state;
-
-static uint64_t chance(void)
-{
-    uint64_t z = chance_state += 0x9E3779B97F4A7C15u;
-    z = (z ^ (z >> 30)) * 0xBF58476D1CE4E5B9u;
-    z = (z ^ (z >> 27)) * 0x94D049BB133111EBu;
-    return z ^ (z >> 31);
-}
-
-static uint64_t below(uint64_t n)
-{
-    return chance() % n;
-}
-
-static int one_in(uint64_t n)
-{
-    return below(n) == 0;
-}
 
 /* A number that a careless caller could hand in. */
 static uint64_t any_number(void)

@@ -11,34 +11,13 @@
  *
  * used_once [SEED [HISTORIES]] */
 #include "awirbesh.h"
+#include "chance.h"
 
 #include <stdio.h>
 #include <stdlib.h>
 #include <string.h>
 
 enum { PAGE = 1024, STORE = 24 * PAGE, TURNS = 120, BATCH = 4, LONGEST = 2600, PATTERN = 1 << 16 };
-
-/* ---- chance ---- */
-
-static uint64_t chance_state;
-
-static uint64_t chance(void)
-{
-    uint64_t z = chance_state += 0x9E3779B97F4A7C15u;
-    z = (z ^ (z >> 30)) * 0xBF58476D1CE4E5B9u;
-    z = (z ^ (z >> 27)) * 0x94D049BB133111EBu;
-    return z ^ (z >> 31);
-}
-
-static uint64_t below(uint64_t n)
-{
-    return chance() % n;
-}
-
-static int one_in(uint64_t n)
-{
-    return below(n) == 0;
-}
 
 /* ---- what happened ---- */
 
