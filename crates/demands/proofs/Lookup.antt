@@ -3,3 +3,4 @@ pub mod Right
 pub mod Refusing
 pub mod Placed
 pub mod NeverTen
+pub mod Held

@@ -4,3 +4,4 @@ pub mod Right
 pub mod OneListing
 pub mod Refusing
 pub mod Inside
+pub mod Held

@@ -12,7 +12,8 @@ use Rattle.scanning.specs.Step.{entry}
 use Rattle.log.specs.declared.state.State.{State}
 use Rattle.scanning.specs.declared.Range.{Range}
 use Rattle.demands.specs.History.{Call, push, take-id, raise, find, lookup, scan, step-on, recover, lend, cut-log, Words}
-use Rattle.demands.specs.History.{Answer, pushed, handed-out, raised-to, located, looked-up, scan-began, stepped, restored, lent, reopened, stateAfterTake, stateAfterRaise, stateAfterRecovery, Said}
+use Rattle.demands.specs.History.{Answer, pushed, handed-out, raised-to, located, looked-up, scan-began, stepped, restored, lent, reopened}
+use Rattle.demands.specs.History.{stateAfterTake, stateAfterRaise, stateAfterRecovery, Said}
 
 -- ---- what a call did, by its answer
 
@@ -38,13 +39,17 @@ pub record Pushes (id : ℕ) (d : List ℕ) (x : Said) : Type 0 where
 -- 11.11 "found, or handed over by a step"
 pub data Finds (id : ℕ) (x : Said) : Type 0 where
   by-find : (position len : ℕ) → x .call ≡ find id → x .reply ≡ located (found position len) → Finds id x
-  by-lookup : (out left : List ℕ) (position len : ℕ) → x .call ≡ lookup id out → x .reply ≡ looked-up (withOutput (found position len) left) → Finds id x
-  by-step : (range : Range) (cursor : ℕ) (out left : List ℕ) (len next : ℕ) → x .call ≡ step-on range cursor out → x .reply ≡ stepped (withOutput (entry id len next) left) → Finds id x
+  by-lookup : (out left : List ℕ) (position len : ℕ) → x .call ≡ lookup id out
+      → x .reply ≡ looked-up (withOutput (found position len) left) → Finds id x
+  by-step : (range : Range) (cursor : ℕ) (out left : List ℕ) (len next : ℕ) → x .call ≡ step-on range cursor out
+      → x .reply ≡ stepped (withOutput (entry id len next) left) → Finds id x
 
 -- 11.11 "with the data of that push": that data is put to the output's front
 pub data Reads (id : ℕ) (d : List ℕ) (x : Said) : Type 0 where
-  read-by-lookup : (out rest : List ℕ) (position : ℕ) → x .call ≡ lookup id out → x .reply ≡ looked-up (withOutput (found position (length d)) (d ++ rest)) → Reads id d x
-  read-by-step : (range : Range) (cursor : ℕ) (out rest : List ℕ) (next : ℕ) → x .call ≡ step-on range cursor out → x .reply ≡ stepped (withOutput (entry id (length d) next) (d ++ rest)) → Reads id d x
+  read-by-lookup : (out rest : List ℕ) (position : ℕ) → x .call ≡ lookup id out
+      → x .reply ≡ looked-up (withOutput (found position (length d)) (d ++ rest)) → Reads id d x
+  read-by-step : (range : Range) (cursor : ℕ) (out rest : List ℕ) (next : ℕ) → x .call ≡ step-on range cursor out
+      → x .reply ≡ stepped (withOutput (entry id (length d) next) (d ++ rest)) → Reads id d x
 
 -- ---- what was said before
 

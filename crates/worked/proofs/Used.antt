@@ -50,12 +50,17 @@ plain-pushes-none plain id d p = subst Plain (p .called) plain
 nor : (id : ℕ) (d : List ℕ) {x : Said} {rest : Type 0} → Plain (x .call) → (rest → ⊥) → Pushes id d x ⊎ rest → ⊥
 nor id d plain none = ⊎-elim (plain-pushes-none plain id d) none
 
-plain-allowed : (first : State) (before : List Said) (x : Said) → Plain (x .call) → GivenAbove (lastAnswered first before .ceiling) (x .call) → Allowed first before x
-plain-allowed first before x plain given = record {
-  handed = λ id d p. absurd (plain-pushes-none plain id d p);
-  once = λ id d e p q. plain-pushes-none plain id d p;
-  stored = given;
-}
+-- such a call is allowed, and so are the calls after it
+plain-then : {first : State} {before : List Said} {x : Said} {Rest : Type 0} → Plain (x .call) → GivenAbove (lastAnswered first before .ceiling) (x .call) → Rest
+    → Allowed first before x × Rest
+plain-then plain given rest = (
+  record {
+    handed = λ id d p. absurd (plain-pushes-none plain id d p);
+    once = λ id d e p q. plain-pushes-none plain id d p;
+    stored = given;
+  },
+  rest,
+)
 
 idsOf : Call → List ℕ
 idsOf (push ids ends bytes words) = ids
@@ -94,13 +99,17 @@ one-id {i} {x} o id d p =
     let l : p .ids ≡ i ∷ [] = sym (ap idsOf (p .called)) ∙ o .ids in
     sym (p .id-is) ∙ rw (l, z)
 
-one-allowed : (first : State) (before : List Said) (x : Said) (i : ℕ) → One i x → Some (HandsOut i) before → ((e : List ℕ) → Some (Pushes i e) before → ⊥)
-    → GivenAbove (lastAnswered first before .ceiling) (x .call) → Allowed first before x
-one-allowed first before x i o handed once given = record {
-  handed = λ id d p. rw (one-id o id d p) handed;
-  once = λ id d e p q. once e (rw (one-id o id d p) at q);
-  stored = given;
-}
+-- so is a push of an id that was handed out and not pushed before
+one-then : {first : State} {before : List Said} {x : Said} {Rest : Type 0} (i : ℕ) → One i x → Some (HandsOut i) before
+    → ((e : List ℕ) → Some (Pushes i e) before → ⊥) → GivenAbove (lastAnswered first before .ceiling) (x .call) → Rest → Allowed first before x × Rest
+one-then i o handed once given rest = (
+  record {
+    handed = λ id d p. rw (one-id o id d p) handed;
+    once = λ id d e p q. once e (rw (one-id o id d p) at q);
+    stored = given;
+  },
+  rest,
+)
 
 -- ---- a history with a dropped id, a restart and a cut
 
@@ -131,52 +140,19 @@ pub calls-allowed : InTurn (Allowed fresh) [] (said empty calls)
 unfolding pagesFor pageAt numberAt bytesOf markAt lengthAt idAt entryAt filled firstPage laterPage laterPages entryPages tooLong badState takeOf badStep
     raiseOf entryData some badEnd badBatch largeData someLarge wrote turn entriesFrom pushOf atWhole atStart walkBack recoverLog recoverOf answer step
     said idsOf writtenOf
-calls-allowed = (
-  plain-allowed _ _ _ tt tt,
-  (
-    plain-allowed _ _ _ tt tt,
-    (
-      plain-allowed _ _ _ tt tt,
-      (
-        plain-allowed _ _ _ tt tt,
-        (
-          one-allowed _ _ _ 1 (record { ids = refl; written = refl }) (inr (inr (inl (record { state = _; is = refl })))) (λ e. nor 1 e tt (nor 1 e tt (nor 1 e tt (nor 1 e tt (λ none. none))))) tt,
-          (
-            plain-allowed _ _ _ tt (lit≤ tt),
-            (
-              one-allowed _ _ _ 3 (record { ids = refl; written = refl }) (inr (inr (inl (record { state = _; is = refl }))))
-                  (λ e. nor 3 e tt (⊎-elim
-                  (λ q. let z : _≡_ {A = ℕ} 3 1 = one-id (record { ids = refl; written = refl }) 3 e q in omega arith)
-                  (nor 3 e tt (nor 3 e tt (nor 3 e tt (nor 3 e tt (λ none. none))))))) tt,
-              (
-                plain-allowed _ _ _ tt tt,
-                (
-                  plain-allowed _ _ _ tt (lit≤ tt),
-                  (
-                    plain-allowed _ _ _ tt tt,
-                    (
-                      plain-allowed _ _ _ tt tt,
-                      (
-                        plain-allowed _ _ _ tt tt,
-                        (
-                          plain-allowed _ _ _ tt tt,
-                          (
-                            plain-allowed _ _ _ tt tt,
-                            tt,
-                          ),
-                        ),
-                      ),
-                    ),
-                  ),
-                ),
-              ),
-            ),
-          ),
-        ),
-      ),
-    ),
-  ),
-)
+calls-allowed =
+    plain-then tt tt (plain-then tt tt (plain-then tt tt (plain-then tt tt (
+    one-then 1 (record { ids = refl; written = refl }) (inr (inr (inl (record { state = _; is = refl }))))
+    (λ e. nor 1 e tt (nor 1 e tt (nor 1 e tt (nor 1 e tt (λ none. none))))) tt (
+    plain-then tt (lit≤ tt) (
+    one-then 3 (record { ids = refl; written = refl }) (inr (inr (inl (record { state = _; is = refl }))))
+    (λ e. nor 3 e tt (⊎-elim
+    (λ q. let z : _≡_ {A = ℕ} 3 1 = one-id (record { ids = refl; written = refl }) 3 e q in omega arith)
+    (nor 3 e tt (nor 3 e tt (nor 3 e tt (nor 3 e tt (λ none. none))))))) tt (
+    plain-then tt tt (
+    plain-then tt (lit≤ tt) (
+    plain-then tt tt (plain-then tt tt (plain-then tt tt (plain-then tt tt (plain-then tt tt
+    tt)))))))))))))
 
 pub calls-used-once : InTurn UsedOnce [] (said empty calls)
 calls-used-once = used-once empty empty-begins calls calls-allowed
@@ -227,7 +203,8 @@ page = world (replicate 1024 0) fresh
 abbrev unhanded : List Call
 unhanded = pushes 1 (lit< tt) 7 ∷ raise 1 ∷ take-id ∷ find 1 ∷ []
 
-pub unhanded-found : (answer (run page (take 2 unhanded)) take-id ≡ handed-out (taken 1 (stateOf 1024 1 2 2))) × (answer (run page (take 3 unhanded)) (find 1) ≡ located (found 0 1))
+pub unhanded-found : (answer (run page (take 2 unhanded)) take-id ≡ handed-out (taken 1 (stateOf 1024 1 2 2)))
+    × (answer (run page (take 3 unhanded)) (find 1) ≡ located (found 0 1))
 unfolding pagesFor pageAt numberAt bytesOf markAt lengthAt idAt entryAt filled firstPage laterPage laterPages entryPages tooLong badState takeOf badStep
     raiseOf entryData some badEnd badBatch largeData someLarge wrote turn entriesFrom pushOf leastFrom leastShift offsetOf compared sayingAt turned walk
     search searchOf findOf answer step run

@@ -238,10 +238,10 @@ pub four-word : Words (4 ∷ [])
 four-word zero = lit< tt
 four-word (suc k) = lit< tt
 
-abbrev pub much : List ℕ
+abbrev much : List ℕ
 much = replicate 2036 7
 
-abbrev pub pushes-four : List ℕ → Call
+abbrev pushes-four : List ℕ → Call
 pushes-four d = push (4 ∷ []) (length d ∷ []) d four-word
 
 -- once its id is taken
@@ -292,10 +292,10 @@ two-words zero = lit< tt
 two-words (suc zero) = lit< tt
 two-words (suc (suc k)) = lit< tt
 
-abbrev pub both : List ℕ
+abbrev both : List ℕ
 both = 8 ∷ twoPages
 
-abbrev pub pushes-both : Call
+abbrev pushes-both : Call
 pushes-both = push (4 ∷ 5 ∷ []) (1 ∷ 1014 ∷ []) both two-words
 
 abbrev cut-push : Push

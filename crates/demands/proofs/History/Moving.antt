@@ -74,15 +74,17 @@ module _ (w : World) (i : Lives w) where
 
   moved-take : Moved w (world (w .store) (stateAfterTake (w .state) (takeOf (w .state))))
   unfolding takeOf
-  moved-take = either Leaves (eqb (w .state .next) topId) (moved-none w i)
-      (either Leaves (ltb (w .state .next) (w .state .ceiling)) (restated w (stateOf (w .state .length) (w .state .last) (w .state .next + 1) (w .state .ceiling)) i refl refl (λ id h. omega (arith, h .below))) (moved-none w i))
+  moved-take = either Leaves (eqb (w .state .next) topId) (moved-none w i) (either Leaves (ltb (w .state .next) (w .state .ceiling))
+      (restated w (stateOf (w .state .length) (w .state .last) (w .state .next + 1) (w .state .ceiling)) i refl refl (λ id h. omega (arith, h .below)))
+      (moved-none w i))
     where
       Leaves : Taking → Type 0
       Leaves r = Moved w (world (w .store) (stateAfterTake (w .state) r))
 
   moved-raise : (by : ℕ) → Moved w (world (w .store) (stateAfterRaise (w .state) (raiseOf (w .state) by)))
   unfolding raiseOf
-  moved-raise by = either Leaves (badStep (w .state .ceiling) by) (moved-none w i) (restated w (stateOf (w .state .length) (w .state .last) (w .state .next) (w .state .ceiling + by)) i refl refl (λ id h. h .below))
+  moved-raise by = either Leaves (badStep (w .state .ceiling) by) (moved-none w i)
+      (restated w (stateOf (w .state .length) (w .state .last) (w .state .next) (w .state .ceiling + by)) i refl refl (λ id h. h .below))
     where
       Leaves : Raising → Type 0
       Leaves r = Moved w (world (w .store) (stateAfterRaise (w .state) r))

@@ -30,7 +30,8 @@ module _ (st : State) where
     take-at-ceiling l = rw (ne-eqb (st .next) topId u, le-ltb (st .next) (st .ceiling) l)
 
     -- next moves on by one
-    pub take-moves : st .next < st .ceiling → (next : ℕ) → next ≡ st .next + 1 → taken (st .next) (stateOf (st .length) (st .last) next (st .ceiling)) ≡ takeOf st
+    pub take-moves : st .next < st .ceiling → (next : ℕ) → next ≡ st .next + 1
+        → taken (st .next) (stateOf (st .length) (st .last) next (st .ceiling)) ≡ takeOf st
     unfolding takeOf
     take-moves l next e = rw (e, ne-eqb (st .next) topId u, lt-ltb (st .next) (st .ceiling) l)
 
@@ -67,6 +68,7 @@ module _ (st : State) (step : ℕ) where
   unfolding raiseOf
   raise-refused t = rw t
 
-  pub raise-adds : badStep (st .ceiling) step ≡ false → (ceiling : ℕ) → ceiling ≡ st .ceiling + step → raised (stateOf (st .length) (st .last) (st .next) ceiling) ≡ raiseOf st step
+  pub raise-adds : badStep (st .ceiling) step ≡ false → (ceiling : ℕ) → ceiling ≡ st .ceiling + step
+      → raised (stateOf (st .length) (st .last) (st .next) ceiling) ≡ raiseOf st step
   unfolding raiseOf
   raise-adds t ceiling e = rw (t, e)

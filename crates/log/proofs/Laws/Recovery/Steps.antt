@@ -176,6 +176,7 @@ module _ (store : List ℕ) (n stored : ℕ) where
   recover-bad t = rw t
 
   -- the part that is walked, of w bytes, ends where the excess begins
-  pub recover-cut : tooLong store n ≡ false → (w : ℕ) → w ≡ length (take w store) → w ≡ n - excessOf n → aboveStored stored (recoverLog (take w store) (excessOf n)) ≡ recoverOf store n stored
+  pub recover-cut : tooLong store n ≡ false → (w : ℕ) → w ≡ length (take w store) → w ≡ n - excessOf n
+      → aboveStored stored (recoverLog (take w store) (excessOf n)) ≡ recoverOf store n stored
   unfolding recoverOf
   recover-cut t w size e = rw (t, ← e)
