@@ -1,4 +1,5 @@
 pub mod Sound
+pub mod Taking
 pub mod Front
 pub mod Output
 pub mod Last

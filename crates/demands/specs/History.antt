@@ -136,10 +136,13 @@ pub record Said : Type 0 where
   pub call : Call
   pub reply : Answer
 
+abbrev pub heard : World → Call → Said
+heard w c = record { call = c; reply = answer w c }
+
 -- what each call of the sequence answered
 unfoldable pub said : World → List Call → List Said
 said w [] = []
-said w (c ∷ cs) = record { call = c; reply = answer w c } ∷ said (step w c) cs
+said w (c ∷ cs) = heard w c ∷ said (step w c) cs
 
 -- ---- where a history begins
 

@@ -1,5 +1,6 @@
 // Recovery: the state of a log, from its last entry.
 use crate::bounds;
+use crate::state;
 use crate::state::State;
 use page::Entry;
 use page::Mark;
@@ -25,7 +26,7 @@ pub enum Recovered {
 fn at_whole(length: u64, id: u64, excess: u64, dropped: u64) -> Recovered
     ensures { λ r. ⌜ paperRecovered r ≡ atWhole length id excess dropped ⌝ }
 {
-    if id == 0xffff_ffff_ffff_ffff {
+    if id == state::TOP_ID {
         return Recovered::Refused(Refusal::IdsUsedUp);
     }
     Recovered::At {
@@ -87,7 +88,7 @@ fn walk_back(log: &[u8], excess: u64) -> Recovered
 }
 
 // What the walk came to, its state above the ceiling that was stored.
-fn above(recovered: Recovered, stored: u64) -> Recovered
+fn above_stored(recovered: Recovered, stored: u64) -> Recovered
     ensures { λ r. ⌜ paperRecovered r ≡ aboveStored stored (paperRecovered recovered) ⌝ }
 {
     match recovered {
@@ -96,7 +97,7 @@ fn above(recovered: Recovered, stored: u64) -> Recovered
             excess,
             dropped,
         } => Recovered::At {
-            state: state.above(stored),
+            state: state.resumed_above(stored),
             excess,
             dropped,
         },
@@ -113,5 +114,5 @@ pub fn recover(store: &[u8], length: u64, stored: u64) -> Recovered
     }
     let n = length as usize;
     let excess = n % Page::SIZE;
-    above(walk_back(&store[..n - excess], excess as u64), stored)
+    above_stored(walk_back(&store[..n - excess], excess as u64), stored)
 }

@@ -24,6 +24,9 @@ pub enum Raised {
     Refused(Refusal),
 }
 
+// The id that is never handed out, and the highest ceiling.
+pub(crate) const TOP_ID: u64 = 0xffff_ffff_ffff_ffff;
+
 // The most by which a ceiling is raised.
 const MOST_RAISED: u64 = 0x1_0000_0000;
 
@@ -37,7 +40,7 @@ fn is_bad_step(ceiling: u64, step: u64) -> bool
     if MOST_RAISED < step {
         return true;
     }
-    0xffff_ffff_ffff_ffff - ceiling < step
+    TOP_ID - ceiling < step
 }
 
 impl State {
@@ -68,7 +71,7 @@ impl State {
     }
 
     // The state to go on with where this ceiling was stored.
-    pub(crate) fn above(self, stored: u64) -> State
+    pub(crate) fn resumed_above(self, stored: u64) -> State
         ensures { λ r. ⌜ r ≡ resumedAbove stored self ⌝ }
     {
         let mut next = self.next;
@@ -101,7 +104,7 @@ impl State {
     {
         let next = self.next;
         let ceiling = self.ceiling;
-        if next == 0xffff_ffff_ffff_ffff {
+        if next == TOP_ID {
             return Taken::Refused(Refusal::IdsUsedUp);
         }
         if next >= ceiling {

@@ -41,7 +41,7 @@ pub unmarked-is-sound : SoundStore unmarked 4096
 unfolding pagesFor pageAt numberAt bytesOf markAt lengthAt idAt entryAt filled firstPage laterPage laterPages entryPages tooLong laterMarks checkStart checkPage checkEnd checkFrom checkOf
 unmarked-is-sound = checked-sound unmarked 4096 .0 refl
 
--- and its id 3 is handed out again, after 2
+-- and its id 3 is handed out again, after 2, if no ceiling is stored
 pub unmarked-is-lost : recoverOf unmarked 4096 0 ≡ recovered (stateOf 4096 1 2 2) 0 0
 unfolding pagesFor pageAt numberAt bytesOf markAt lengthAt idAt entryAt filled firstPage laterPage laterPages entryPages tooLong atWhole atStart walkBack recoverLog recoverOf
 unmarked-is-lost = refl

@@ -20,7 +20,7 @@
 --   recover-right, recover-alike              a length with an excess; logs that differ before their last whole entry: excess-recovers, recovers-alike, torn-alike
 --   complete-right, note-adds                 over words that are not zero: notes-right, three-added
 --   data-one-part                             the data of an entry of one page: five-bytes
-use Prim.Native.Nat.{ℕ, zero, suc, _+_, _-_, _*_, _≤_, _<_}
+use Prim.Native.Nat.{ℕ, zero, suc, _+_, _-_, _*_, _^_, _≤_, _<_}
 use mathlib.Core.Path.{_≡_, refl, ap}
 use mathlib.Core.Bool.{true}
 use mathlib.Core.Logic.{_⊎_, _↔_, inl, inr, ⊎-elim}
@@ -198,9 +198,12 @@ step-kept out = refused-step-keeps store (stateOf 1 0 1 1) every 0 out 1 0 refl
 abbrev takes : List Call
 takes = raise 2 ∷ take-id ∷ take-id ∷ []
 
-pub one-word : Words (5 ∷ [])
-one-word zero = lit< tt
-one-word (suc k) = lit< tt
+pub word : (i : ℕ) → i < 2 ^ 64 → Words (i ∷ [])
+word i l zero = l
+word i l (suc k) = lit< tt
+
+abbrev one-word : Words (5 ∷ [])
+one-word = word 5 (lit< tt)
 
 abbrev pushes-five : Call
 pushes-five = push (5 ∷ []) (1 ∷ []) (8 ∷ []) one-word
@@ -234,9 +237,8 @@ five-stays-read later spare = five-reads-back .reads later spare (settled begins
 
 -- ---- 4 is pushed with more than the two pages of room hold; then again with a byte, or as it was in a longer store
 
-pub four-word : Words (4 ∷ [])
-four-word zero = lit< tt
-four-word (suc k) = lit< tt
+abbrev four-word : Words (4 ∷ [])
+four-word = word 4 (lit< tt)
 
 abbrev much : List ℕ
 much = replicate 2036 7
@@ -366,9 +368,8 @@ pub three-through-a-cut : (out : List ℕ) → 1013 ≤ length out → LooksUp (
 three-through-a-cut = three-stays-found torn-calls (torn-goes-on .1)
 
 -- the last id of all is pushed: recovery of the log then answers 9, and with a state made up of its length and that id 3 is still found as before
-pub top-word : Words (0xffffffffffffffff ∷ [])
-top-word zero = lit< tt
-top-word (suc k) = lit< tt
+abbrev top-word : Words (0xffffffffffffffff ∷ [])
+top-word = word 0xffffffffffffffff (lit< tt)
 
 abbrev pushes-top : Call
 pushes-top = push (0xffffffffffffffff ∷ []) (0 ∷ []) [] top-word

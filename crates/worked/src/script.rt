@@ -39,8 +39,8 @@ fn act(store: &mut [u8], state: State, line: &[u8]) -> State {
         b'l' => pushes::long(store, state, line),
         b'W' => pushes::word(store, state, line),
         b'T' => tails::taken(state),
-        b'L' => tails::lifted(state, line),
-        b'R' => tails::restarted(store, state, line),
+        b'R' => tails::raised(state, line),
+        b'O' => tails::opened(store, state, line),
         _ => state,
     }
 }

@@ -16,11 +16,11 @@ pub fn run() {
         b"name take from fresh
 Take
 name the fresh state raised by 0
-Lift 0
+Raise 0
 name raised by 2^32 + 1
-Lift 4294967297
+Raise 4294967297
 name raised by 2
-Lift 2
+Raise 2
 name take
 Take
 name take
@@ -30,26 +30,26 @@ Take
 name push (1, hello), and 2 is dropped
 Word 4096 - hello 1 - - 5 - -
 name recovered with the stored ceiling 3
-Restart 3
+Open 3
 query 2
 name raised by 1
-Lift 1
+Raise 1
 name take
 Take
 name recovered with the stored ceiling 0
-Restart 0
+Open 0
 name raised by 1
-Lift 1
+Raise 1
 name take
 Take
 name raised by 2^32
-Lift 4294967296
+Raise 4294967296
 state 0 0 1 18446744073709551614
 name ceiling 2^64-2, raised by 1
-Lift 1
+Raise 1
 state 0 0 1 18446744073709551614
 name ceiling 2^64-2, raised by 2
-Lift 2
+Raise 2
 state 1024 7 18446744073709551614 18446744073709551615
 name take of 2^64-2 below the ceiling 2^64-1
 Take
@@ -63,13 +63,13 @@ name take of 9 above the ceiling 8
 Take
 state 0 0 7 9
 name no page, stored ceiling 0
-Restart 0
+Open 0
 name no page, stored ceiling 1
-Restart 1
+Open 1
 name no page, stored ceiling 2
-Restart 2
+Open 2
 name no page, stored ceiling 2^64-1
-Restart 18446744073709551615
+Open 18446744073709551615
 byte 0 1
 byte 3 8
 byte 11 1
@@ -208,16 +208,16 @@ pub fn taken(state: State) -> State {
     }
 }
 
-// "Lift STEP": raises the ceiling, and hands on the state.
-pub fn lifted(state: State, line: &[u8]) -> State {
+// "Raise STEP": raises the ceiling, and hands on the state.
+pub fn raised(state: State, line: &[u8]) -> State {
     match state.raise(number(line, 1)) {
         Raised::To { state: after } => told(after),
         Raised::Refused(r) => untold(r, state),
     }
 }
 
-// "Restart CEILING": recovers the log of the state's length with a stored ceiling, and hands on the state.
-pub fn restarted(store: &[u8], state: State, line: &[u8]) -> State {
+// "Open CEILING": recovers the log of the state's length with a stored ceiling, and hands on the state.
+pub fn opened(store: &[u8], state: State, line: &[u8]) -> State {
     match log::recover(store, state.length, number(line, 1)) {
         Recovered::At {
             state: after,

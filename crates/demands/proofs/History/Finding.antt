@@ -1,85 +1,35 @@
 -- What a history finds: each entry that the log holds after a call was there before or the call pushed it, and what a call finds the log holds. Assumes nothing.
-use Prim.Native.Nat.{ℕ, _+_, _/_, _<_}
+use Prim.Native.Nat.{ℕ, _/_, _<_}
 use mathlib.Core.Path.{_≡_, refl, sym, ap, _∙_}
 use mathlib.Core.Logic.{_⊎_, inl, inr, ⊎-elim}
-use mathlib.Core.List.{List, [], _++_}
-use lib.Dec.{eqb, ltb}
-use lib.ListN.{length, getD, take}
+use mathlib.Core.List.{List, []}
+use lib.ListN.{length, getD, take, drop}
 use lib.Seq.{take-at}
-use Rattle.refusal.proofs.Cases.{either}
 use Rattle.page.specs.Size.{pageSize}
 use Rattle.page.specs.Data.{dataAt, copied}
 use Rattle.page.proofs.Placing.{length-data}
-use Rattle.log.specs.Bounds.{tooLong}
 use Rattle.log.specs.Output.{WithOutput}
-use Rattle.log.specs.State.{topId, takeOf}
-use Rattle.log.specs.Raise.{badStep, raiseOf}
-use Rattle.log.specs.Recovery.{recoverOf}
 use Rattle.log.specs.Lookup.{Looking, findOf, lookupOf}
 use Rattle.log.specs.declared.state.State.{State}
 use Rattle.pushing.specs.Push.{Done, entryData}
 use Rattle.scanning.specs.Step.{Stepping, stepOf}
 use Rattle.scanning.specs.declared.Range.{Range}
 use Rattle.demands.specs.Push.{outcome, Holds}
-use Rattle.demands.specs.History.{World, world, logOf, Words, Call, push, take-id, raise, find, lookup, scan, step-on, recover, lend, cut-log}
-use Rattle.demands.specs.History.{anotherStore, Answer, pushed, looked-up, located, stepped, stateAfterTake, stateAfterRaise, stateAfterRecovery, answer, step, Said, pushing}
-use Rattle.demands.specs.Used.{Pushes, Finds, by-find, by-lookup, by-step, Reads, read-by-lookup, read-by-step}
-use Rattle.demands.proofs.Sound.{sound-length}
+use Rattle.demands.specs.History.{World, logOf, Words, Call, push, find, lookup, step-on, cut-log}
+use Rattle.demands.specs.History.{Answer, pushed, looked-up, located, stepped, answer, step, heard, pushing}
+use Rattle.demands.specs.Used.{Pushes, Finds, by-find, by-lookup, by-ten, by-step, Reads, read-by-lookup, read-by-step}
 use Rattle.demands.proofs.Last.{last-stored-ready}
 use Rattle.demands.proofs.Push.Appending.{holds-kept}
 use Rattle.demands.proofs.Push.Origin.{counted-held, held-before-or-counted}
-use Rattle.demands.proofs.Lookup.Held.{find-held, looked}
+use Rattle.demands.proofs.Lookup.Held.{find-held, looked, looked-ten}
 use Rattle.demands.proofs.Scan.Held.{stepped-to}
-use Rattle.demands.proofs.Recovery.Resuming.{Resumed, by-recovery}
 use Rattle.demands.proofs.History.Living.{Lives}
 use Rattle.demands.proofs.History.Cuts.{CutLeaves, not-gone-on, gone-on}
-use Rattle.demands.proofs.History.Moving.{recovery-right, any-cut}
-
--- a call, with what it answers there
-abbrev pub heard : World → Call → Said
-heard w c = record { call = c; reply = answer w c }
+use Rattle.demands.proofs.History.Moving.{moved, any-cut}
 
 -- ---- where the entries of the log after a call come from
 
 module _ (w : World) (i : Lives w) (id : ℕ) (d : List ℕ) where
-  -- shut, so that antt sees of which world it is asked
-  WasThere : World → Type 0
-  WasThere v = Holds (logOf v) id d → Holds (logOf w) id d
-
-  there-still : WasThere w
-  unfolding WasThere
-  there-still h = h
-
-  same-there : (v : World) → logOf v ≡ logOf w → WasThere v
-  unfolding WasThere
-  same-there v e h = rw e at h
-
-  take-there : WasThere (world (w .store) (stateAfterTake (w .state) (takeOf (w .state))))
-  unfolding takeOf WasThere
-  take-there = either (λ r. WasThere (world (w .store) (stateAfterTake (w .state) r))) (eqb (w .state .next) topId) there-still
-      (either (λ r. WasThere (world (w .store) (stateAfterTake (w .state) r))) (ltb (w .state .next) (w .state .ceiling)) there-still there-still)
-
-  raise-there : (by : ℕ) → WasThere (world (w .store) (stateAfterRaise (w .state) (raiseOf (w .state) by)))
-  unfolding raiseOf WasThere
-  raise-there by = either (λ r. WasThere (world (w .store) (stateAfterRaise (w .state) r))) (badStep (w .state .ceiling) by) there-still there-still
-
-  recovery-there : (stored : ℕ) → WasThere (world (w .store) (stateAfterRecovery (w .state) (recoverOf (w .store) (w .state .length) stored)))
-  recovery-there stored = by-recovery (λ r. WasThere (world (w .store) (stateAfterRecovery (w .state) r))) there-still on
-      (recoverOf (w .store) (w .state .length) stored) (recovery-right w i stored)
-    where
-      on : (st : State) → Resumed (logOf w) stored st → WasThere (world (w .store) st)
-      on st h = same-there (world (w .store) st) (ap (λ (n : ℕ). take n (w .store)) (h .size ∙ sound-length (i .good)))
-
-  lent-there : (rest : List ℕ) → WasThere (world (anotherStore w rest) (w .state))
-  unfolding anotherStore
-  lent-there rest = either (λ store. WasThere (world store (w .state))) (tooLong (logOf w ++ rest) (w .state .length)) there-still
-      (same-there (world (logOf w ++ rest) (w .state)) (take-at (logOf w) rest (w .state .length) (sound-length (i .good))))
-
-  cut-there : (stored : ℕ) (v : World) → CutLeaves [] w stored v → WasThere v
-  unfolding WasThere
-  cut-there stored v not-gone-on h = h
-  cut-there stored v (gone-on u o r front) h = rw (front .is) (holds-kept (logOf u) (front .more) id d (o .lives .good .sound) h)
-
   push-there : (ids ends bytes : List ℕ) (words : Words ids) → Holds (logOf (step w (push ids ends bytes words))) id d
       → Holds (logOf w) id d ⊎ Pushes id d (heard w (push ids ends bytes words))
   unfolding step answer
@@ -99,19 +49,16 @@ module _ (w : World) (i : Lives w) (id : ℕ) (d : List ℕ) where
       }))
       (held-before-or-counted (pushing w ids ends bytes) words (last-stored-ready (w .store) (w .state) (i .good) (i .last)) id d h)
 
+  cut-there : (stored : ℕ) (v : World) → CutLeaves [] w stored v → Holds (logOf v) id d → Holds (logOf w) id d
+  cut-there stored v not-gone-on h = h
+  cut-there stored v (gone-on u o r front) h = rw (front .is) (holds-kept (logOf u) (front .more) id d (o .lives .good .sound) h)
+
   -- THE LAW
   pub comes-from : (c : Call) → Holds (logOf (step w c)) id d → Holds (logOf w) id d ⊎ Pushes id d (heard w c)
-  unfolding step answer WasThere
-  comes-from (push ids ends bytes words) h = push-there ids ends bytes words h
-  comes-from take-id h = inl (take-there h)
-  comes-from (raise by) h = inl (raise-there by h)
-  comes-from (find j) h = inl h
-  comes-from (lookup j out) h = inl h
-  comes-from (scan range) h = inl h
-  comes-from (step-on range cursor out) h = inl h
-  comes-from (recover stored) h = inl (recovery-there stored h)
-  comes-from (lend rest) h = inl (lent-there rest h)
-  comes-from (cut-log n stored rest) h = inl (cut-there stored _ (any-cut w i n stored rest) h)
+  comes-from c h = ⊎-elim
+      (λ m. ⊎-elim (λ e. inl (rw e at h)) (λ k. rw (k .is) (push-there (k .ids) (k .ends) (k .bytes) (k .words) (rw (k .is) at h))) (m .same))
+      (λ k. inl (cut-there (k .stored) (step w (cut-log (k .bytes) (k .stored) (k .rest))) (any-cut w i (k .bytes) (k .stored) (k .rest)) (rw (k .is) at h)))
+      (moved w i c)
 
   -- and an entry that a push counted is there after it
   push-held : (ids ends bytes : List ℕ) (words : Words ids) (done : Done) → answer w (push ids ends bytes words) ≡ pushed done
@@ -128,10 +75,6 @@ module _ (w : World) (i : Lives w) (id : ℕ) (d : List ℕ) where
       (push-held (p .ids) (p .ends) (p .bytes) (p .words) (p .done) (ap (answer w) (sym (p .called)) ∙ p .is) (p .place) (p .counted) (p .id-is) (p .data-is))
 
 -- ---- what a call finds, the log holds
-
--- lists of one length that two lists begin with
-same-front : (a b x y : List ℕ) → length a ≡ length b → a ++ x ≡ b ++ y → a ≡ b
-same-front a b x y e f = sym (take-at a x (length b) e) ∙ ap (take (length b)) f ∙ take-at b y (length b) refl
 
 module _ (w : World) where
   abbrev store : List ℕ
@@ -153,35 +96,44 @@ module _ (w : World) where
   unfolding answer
   answer-step range cursor out r e = cc
 
-  pub record HeldWith (id : ℕ) : Type 0 where
+  -- of so many bytes
+  pub record HeldWith (id len : ℕ) : Type 0 where
     pub data-is : List ℕ
+    pub size : len ≡ length data-is
     pub held : Holds (logOf w) id data-is
+
+  held-bytes : (id page len : ℕ) → Holds (logOf w) id (dataAt (logOf w) page len) → HeldWith id len
+  held-bytes id page len h = record { data-is = dataAt (logOf w) page len; size = sym (length-data (logOf w) page len); held = h }
 
   module _ (c : Call) (id : ℕ) where
     -- of a call that is known
     answered : (known : Call) (r : Answer) → c ≡ known → answer w c ≡ r → answer w known ≡ r
     answered known r called is = ap (answer w) (sym called) ∙ is
 
-    pub finds-held : Finds id (heard w c) → HeldWith id
-    finds-held (by-find position len called is) =
-        record { data-is = _; held = find-held store st id position len (answer-find id _ (answered _ _ called is)) }
-    finds-held (by-lookup out left position len called is) =
+    pub finds-held : (len : ℕ) → Finds id len (heard w c) → HeldWith id len
+    finds-held len (by-find position called is) =
+        held-bytes id (position / pageSize) len (find-held store st id position len (answer-find id _ (answered _ _ called is)))
+    finds-held len (by-lookup out left position called is) =
         let l = looked store st id position len out left (answer-lookup id out _ (answered _ _ called is)) in
-        record { data-is = _; held = find-held store st id position len (l .at) }
-    finds-held (by-step range cursor out left len next called is) =
-        record { data-is = _; held = stepped-to store st range cursor out id len next left (answer-step range cursor out _ (answered _ _ called is)) .held }
+        held-bytes id (position / pageSize) len (find-held store st id position len (l .at))
+    finds-held len (by-ten out left called is) =
+        let l = looked-ten store st id len out left (answer-lookup id out _ (answered _ _ called is)) in
+        held-bytes id (l .position / pageSize) len (find-held store st id (l .position) len (l .at))
+    finds-held len (by-step range cursor out left next called is) =
+        let l = stepped-to store st range cursor out id len next left (answer-step range cursor out _ (answered _ _ called is)) in
+        held-bytes id (l .page) len (l .held)
 
-    -- what is read is the data of the entry at that page
-    read-is : (d rest out : List ℕ) (page : ℕ) → d ++ rest ≡ copied (logOf w) page (length d) out → Holds (logOf w) id (dataAt (logOf w) page (length d))
+    -- what stands at the output's front is the data of the entry at that page
+    read-is : (d left out : List ℕ) (page len : ℕ) → take len left ≡ d → left ≡ copied (logOf w) page len out → Holds (logOf w) id (dataAt (logOf w) page len)
         → Holds (logOf w) id d
-    read-is d rest out page e h =
-        let same = same-front d (dataAt (logOf w) page (length d)) rest _ (sym (length-data (logOf w) page (length d))) e in
-        rw (← same) at h
+    read-is d left out page len front e h =
+        let same = sym (take-at (dataAt (logOf w) page len) (drop len out) len (length-data (logOf w) page len)) ∙ ap (take len) (sym e) ∙ front in
+        rw same at h
 
     pub reads-held : (d : List ℕ) → Reads id d (heard w c) → Holds (logOf w) id d
-    reads-held d (read-by-lookup out rest position called is) =
-        let l = looked store st id position (length d) out (d ++ rest) (answer-lookup id out _ (answered _ _ called is)) in
-        read-is d rest out (position / pageSize) (l .left-is) (find-held store st id position (length d) (l .at))
-    reads-held d (read-by-step range cursor out rest next called is) =
-        let l = stepped-to store st range cursor out id (length d) next (d ++ rest) (answer-step range cursor out _ (answered _ _ called is)) in
-        read-is d rest out (l .page) (l .left-is) (l .held)
+    reads-held d (read-by-lookup out left position len called is front) =
+        let l = looked store st id position len out left (answer-lookup id out _ (answered _ _ called is)) in
+        read-is d left out (position / pageSize) len front (l .left-is) (find-held store st id position len (l .at))
+    reads-held d (read-by-step range cursor out left len next called is front) =
+        let l = stepped-to store st range cursor out id len next left (answer-step range cursor out _ (answered _ _ called is)) in
+        read-is d left out (l .page) len front (l .left-is) (l .held)

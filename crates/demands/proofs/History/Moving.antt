@@ -1,20 +1,18 @@
 -- What every call keeps: the log stays sound, its front grows or stays as long as no cut falls into it, and an id settled by then stays settled. Assumes nothing.
 use Prim.Native.Nat.{ℕ, _+_, _<_}
-use mathlib.Core.Path.{_≡_, refl, sym, _∙_}
+use mathlib.Core.Path.{_≡_, refl, sym, ap, _∙_}
 use mathlib.Core.Bool.{Bool, true, false}
 use mathlib.Core.Logic.{_⊎_, inl, inr, ⊎-elim}
 use mathlib.Core.List.{List, [], _∷_, _++_, append-nil}
 use native.Mathlib.Omega.{arith}
-use lib.Dec.{eqb, ltb}
 use lib.ListN.{length, take}
 use lib.Seq.{take-at}
 use Rattle.refusal.specs.Pick.{pick}
-use Rattle.refusal.proofs.Cases.{either}
 use Rattle.log.specs.Bounds.{tooLong}
-use Rattle.log.specs.State.{Taking, stateOf, topId, takeOf}
-use Rattle.log.specs.Raise.{Raising, badStep, raiseOf}
+use Rattle.log.specs.State.{takeOf}
+use Rattle.log.specs.Raise.{raiseOf}
 use Rattle.pushing.specs.Push.{pushOf}
-use Rattle.log.specs.Recovery.{Recovering, recoverOf, excessOf}
+use Rattle.log.specs.Recovery.{recoverOf, excessOf}
 use Rattle.log.specs.declared.state.State.{State}
 use Rattle.log.proofs.Laws.Bounds.{fitting}
 use Rattle.demands.specs.Sound.{Sound}
@@ -23,6 +21,7 @@ use Rattle.demands.specs.Recovery.{RightRecovery}
 use Rattle.demands.specs.History.{World, world, logOf, Words, Call, push, take-id, raise, find, lookup, scan, step-on, recover, lend, cut-log}
 use Rattle.demands.specs.History.{anotherStore, answer, stateAfterTake, stateAfterRaise, stateAfterRecovery, step, run, Spares, AllSpare, Settled}
 use Rattle.demands.proofs.Sound.{sound-good, sound-length}
+use Rattle.demands.proofs.Taking.{by-take, by-raise}
 use Rattle.demands.proofs.Last.{last-stored-unique, last-stored-ready}
 use Rattle.demands.proofs.Push.Batch.{push-grows, push-right, push-last-stored}
 use Rattle.demands.proofs.Front.{sound-front}
@@ -30,19 +29,14 @@ use Rattle.demands.proofs.Recovery.Resuming.{no-excess, recover-right, 
 use Rattle.demands.proofs.History.Living.{grows-then, Lives, Over, over-none, over-rises}
 use Rattle.demands.proofs.History.Cuts.{CutLeaves, not-gone-on, gone-on, cut-leaves}
 
--- ---- what one call leaves: it stands over the log before it, and every id settled there is settled here
-
-pub record Moved (w v : World) : Type 0 where
-  pub over : Over (logOf w) v
-  pub settled : (id : ℕ) → Settled w id → Settled v id
-
-moved-none : (w : World) → Lives w → Moved w w
-moved-none w i = record { over = over-none w i; settled = λ id h. h }
-
-over-then : {base : List ℕ} {w v : World} → Over base w → Moved w v → Over base v
-over-then o m = record { lives = m .over .lives; grows = grows-then (o .grows) (m .over .grows) }
-
 -- ---- one call that is no cut
+
+pub record IsPush (c : Call) : Type 0 where
+  pub ids : List ℕ
+  pub ends : List ℕ
+  pub bytes : List ℕ
+  pub words : Words ids
+  pub is : c ≡ push ids ends bytes words
 
 pub record IsCut (c : Call) : Type 0 where
   pub bytes : ℕ
@@ -50,64 +44,54 @@ pub record IsCut (c : Call) : Type 0 where
   pub rest : List ℕ
   pub is : c ≡ cut-log bytes stored rest
 
--- next and the ceiling alone moved
-restated : (w : World) (st : State) → Lives w → st .length ≡ w .state .length → st .last ≡ w .state .last
-    → ((id : ℕ) → Settled w id → id < st .next) → Moved w (world (w .store) st)
-restated w st i e l next = record {
-  over = record {
-    lives = record { good = rw e (i .good); last = rw (e, l) (i .last) };
-    grows = record { more = []; is = rw e (sym (append-nil (logOf w))) };
-  };
-  settled = λ id h. record { some = h .some; most = omega (arith, h .most); below = next id h };
-}
+-- what it leaves stands over the log before it, which only a push makes longer, and every id settled there is settled here
+pub record Moved (w : World) (c : Call) (v : World) : Type 0 where
+  pub over : Over (logOf w) v
+  pub same : (logOf v ≡ logOf w) ⊎ IsPush c
+  pub settled : (id : ℕ) → Settled w id → Settled v id
 
-module _ (w : World) (i : Lives w) where
-  moved-push : (ids ends bytes : List ℕ) → Words ids → Moved w (world (pushOf (w .store) (w .state) ids ends bytes .store) (pushOf (w .store) (w .state) ids ends bytes .answer .state))
-  moved-push ids ends bytes words =
-      let g = push-grows (w .store) (w .state) ids ends bytes in
-      let more = batchPages ids ends bytes (pushOf (w .store) (w .state) ids ends bytes .answer .written) in
-      let good = push-right ids ends bytes words (w .store) (w .state) (last-stored-ready (w .store) (w .state) (i .good) (i .last)) .ready .good in
-      let last = push-last-stored ids ends bytes words (w .store) (w .state) (i .good) (i .last) in
-      let over : Over (logOf w) (world (pushOf (w .store) (w .state) ids ends bytes .store) (pushOf (w .store) (w .state) ids ends bytes .answer .state)) =
-      record { lives = record { good = good; last = last }; grows = record { more = more; is = g .log } } in
-      record { over = over; settled = λ id h. record { some = h .some; most = omega (arith, h .most, over-rises w i over); below = omega (arith, h .below, g .next) } }
+over-then : {base : List ℕ} {w v : World} {c : Call} → Over base w → Moved w c v → Over base v
+over-then o m = record { lives = m .over .lives; grows = grows-then (o .grows) (m .over .grows) }
 
-  moved-take : Moved w (world (w .store) (stateAfterTake (w .state) (takeOf (w .state))))
-  unfolding takeOf
-  moved-take = either Leaves (eqb (w .state .next) topId) (moved-none w i) (either Leaves (ltb (w .state .next) (w .state .ceiling))
-      (restated w (stateOf (w .state .length) (w .state .last) (w .state .next + 1) (w .state .ceiling)) i refl refl (λ id h. omega (arith, h .below)))
-      (moved-none w i))
-    where
-      Leaves : Taking → Type 0
-      Leaves r = Moved w (world (w .store) (stateAfterTake (w .state) r))
+-- a recovery at the log's current length
+pub recovery-right : (w : World) → Lives w → (stored : ℕ) → RightRecovery (logOf w) stored (excessOf (w .state .length)) 0 (recoverOf (w .store) (w .state .length) stored)
+recovery-right w i stored =
+    let e = no-excess (w .store) (w .state .length) (sound-good (i .good) .whole) in
+    rw e at (recover-right (w .store) (w .state .length) stored (i .good .fits) (rw e (i .good .sound)))
 
-  moved-raise : (by : ℕ) → Moved w (world (w .store) (stateAfterRaise (w .state) (raiseOf (w .state) by)))
-  unfolding raiseOf
-  moved-raise by = either Leaves (badStep (w .state .ceiling) by) (moved-none w i)
-      (restated w (stateOf (w .state .length) (w .state .last) (w .state .next) (w .state .ceiling + by)) i refl refl (λ id h. h .below))
-    where
-      Leaves : Raising → Type 0
-      Leaves r = Moved w (world (w .store) (stateAfterRaise (w .state) r))
+module _ (w : World) (i : Lives w) (c : Call) where
+  stays : Moved w c w
+  stays = record { over = over-none w i; same = inl refl; settled = λ id h. h }
 
-  moved-recovery : (stored excess : ℕ) (r : Recovering) → RightRecovery (logOf w) stored excess 0 r → Moved w (world (w .store) (stateAfterRecovery (w .state) r))
-  moved-recovery stored excess = by-recovery {stored = stored} {excess = excess} {dropped = 0} (λ r. Moved w (world (w .store) (stateAfterRecovery (w .state) r)))
-      (moved-none w i)
+  -- next and the ceiling alone moved
+  restated : (st : State) → st .length ≡ w .state .length → st .last ≡ w .state .last → ((id : ℕ) → Settled w id → id < st .next) → Moved w c (world (w .store) st)
+  restated st e l next =
+      let same : logOf (world (w .store) st) ≡ logOf w = ap (λ (n : ℕ). take n (w .store)) e in
+      record {
+        over = record { lives = record { good = rw e (i .good); last = rw (e, l) (i .last) }; grows = record { more = []; is = same ∙ sym (append-nil (logOf w)) } };
+        same = inl same;
+        settled = λ id h. record { some = h .some; most = omega (arith, h .most); below = next id h };
+      }
+
+  take-moved : Moved w c (world (w .store) (stateAfterTake (w .state) (takeOf (w .state))))
+  take-moved = by-take (w .state) (λ r. Moved w c (world (w .store) (stateAfterTake (w .state) r))) stays stays (λ l. restated _ refl refl (λ id h. omega (arith, h .below)))
+
+  raise-moved : (by : ℕ) → Moved w c (world (w .store) (stateAfterRaise (w .state) (raiseOf (w .state) by)))
+  raise-moved by = by-raise (w .state) by (λ r. Moved w c (world (w .store) (stateAfterRaise (w .state) r))) stays (restated _ refl refl (λ id h. h .below))
+
+  recovery-moved : (stored : ℕ) → Moved w c (world (w .store) (stateAfterRecovery (w .state) (recoverOf (w .store) (w .state .length) stored)))
+  recovery-moved stored = by-recovery (λ r. Moved w c (world (w .store) (stateAfterRecovery (w .state) r))) stays
       (λ st h.
       let e = last-stored-unique (logOf w) (st .last) (w .state .last) (h .last) (i .last) in
-      restated w st i (h .size ∙ sound-length (i .good)) e (λ id s. omega (arith, h .next, e, s .most)))
+      restated st (h .size ∙ sound-length (i .good)) e (λ id s. omega (arith, h .next, e, s .most)))
+      (recoverOf (w .store) (w .state .length) stored) (recovery-right w i stored)
 
-  -- a recovery at the log's current length
-  pub recovery-right : (stored : ℕ) → RightRecovery (logOf w) stored (excessOf (w .state .length)) 0 (recoverOf (w .store) (w .state .length) stored)
-  recovery-right stored =
-      let e = no-excess (w .store) (w .state .length) (sound-good (i .good) .whole) in
-      rw e at (recover-right (w .store) (w .state .length) stored (i .good .fits) (rw e (i .good .sound)))
-
-  moved-lent : (rest : List ℕ) → Moved w (world (anotherStore w rest) (w .state))
+  lent-moved : (rest : List ℕ) → Moved w c (world (anotherStore w rest) (w .state))
   unfolding anotherStore
-  moved-lent rest = go (tooLong (logOf w ++ rest) (w .state .length)) refl
+  lent-moved rest = go (tooLong (logOf w ++ rest) (w .state .length)) refl
     where
-      go : (t : Bool) → tooLong (logOf w ++ rest) (w .state .length) ≡ t → Moved w (world (pick t (w .store) (logOf w ++ rest)) (w .state))
-      go true e = moved-none w i
+      go : (t : Bool) → tooLong (logOf w ++ rest) (w .state .length) ≡ t → Moved w c (world (pick t (w .store) (logOf w ++ rest)) (w .state))
+      go true e = stays
       go false e =
           let same : take (w .state .length) (logOf w ++ rest) ≡ logOf w = take-at (logOf w) rest (w .state .length) (sound-length (i .good)) in
           record {
@@ -115,20 +99,37 @@ module _ (w : World) (i : Lives w) where
               lives = record { good = record { fits = fitting (logOf w ++ rest) (w .state .length) e; sound = rw same (i .good .sound) }; last = rw same (i .last) };
               grows = record { more = []; is = same ∙ sym (append-nil (logOf w)) };
             };
+            same = inl same;
             settled = λ id h. record { some = h .some; most = h .most; below = h .below };
           }
 
-  pub moved : (c : Call) → Moved w (step w c) ⊎ IsCut c
+module _ (w : World) (i : Lives w) where
+  push-moved : (ids ends bytes : List ℕ) (words : Words ids)
+      → Moved w (push ids ends bytes words) (world (pushOf (w .store) (w .state) ids ends bytes .store) (pushOf (w .store) (w .state) ids ends bytes .answer .state))
+  push-moved ids ends bytes words =
+      let g = push-grows (w .store) (w .state) ids ends bytes in
+      let more = batchPages ids ends bytes (pushOf (w .store) (w .state) ids ends bytes .answer .written) in
+      let good = push-right ids ends bytes words (w .store) (w .state) (last-stored-ready (w .store) (w .state) (i .good) (i .last)) .ready .good in
+      let last = push-last-stored ids ends bytes words (w .store) (w .state) (i .good) (i .last) in
+      let over : Over (logOf w) (world (pushOf (w .store) (w .state) ids ends bytes .store) (pushOf (w .store) (w .state) ids ends bytes .answer .state)) =
+      record { lives = record { good = good; last = last }; grows = record { more = more; is = g .log } } in
+      record {
+        over = over;
+        same = inr (record { ids = ids; ends = ends; bytes = bytes; words = words; is = refl });
+        settled = λ id h. record { some = h .some; most = omega (arith, h .most, over-rises w i over); below = omega (arith, h .below, g .next) };
+      }
+
+  pub moved : (c : Call) → Moved w c (step w c) ⊎ IsCut c
   unfolding step answer
-  moved (push ids ends bytes words) = inl (moved-push ids ends bytes words)
-  moved take-id = inl moved-take
-  moved (raise by) = inl (moved-raise by)
-  moved (find id) = inl (moved-none w i)
-  moved (lookup id out) = inl (moved-none w i)
-  moved (scan range) = inl (moved-none w i)
-  moved (step-on range cursor out) = inl (moved-none w i)
-  moved (recover stored) = inl (moved-recovery stored (excessOf (w .state .length)) _ (recovery-right stored))
-  moved (lend rest) = inl (moved-lent rest)
+  moved (push ids ends bytes words) = inl (push-moved ids ends bytes words)
+  moved take-id = inl (take-moved w i take-id)
+  moved (raise by) = inl (raise-moved w i (raise by) by)
+  moved (find id) = inl (stays w i (find id))
+  moved (lookup id out) = inl (stays w i (lookup id out))
+  moved (scan range) = inl (stays w i (scan range))
+  moved (step-on range cursor out) = inl (stays w i (step-on range cursor out))
+  moved (recover stored) = inl (recovery-moved w i (recover stored) stored)
+  moved (lend rest) = inl (lent-moved w i (lend rest) rest)
   moved (cut-log n stored rest) = inr (record { bytes = n; stored = stored; rest = rest; is = refl })
 
 -- ---- any call, as long as no cut falls into what stands below

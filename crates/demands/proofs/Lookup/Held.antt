@@ -1,4 +1,4 @@
--- On any store and state: what a lookup finds the log holds, and the data that it puts to the output's front is the entry's. Assumes nothing.
+-- On any store and state: what a lookup finds the log holds, also if it is refused 10, and the data that it puts to the output's front is the entry's. Assumes nothing.
 use Prim.Native.Nat.{ℕ, _/_, _≤_, _<_}
 use mathlib.Core.Path.{_≡_, refl, sym, ap, _∙_}
 use mathlib.Core.Logic.{⊎-elim}
@@ -18,6 +18,7 @@ use Rattle.log.specs.declared.state.State.{State}
 use Rattle.log.proofs.Laws.Lookup.Positions.{found-whole}
 use Rattle.log.proofs.Laws.Lookup.Handing.{found-small, found-copied, absent-nothing, refused-nothing}
 use Rattle.demands.specs.Push.{Holds}
+use Rattle.demands.proofs.Lookup.NeverTen.{find-never-ten}
 
 -- a whole entry of a page, with its data
 pub held-at : (log : List ℕ) (page id len : ℕ) → page < pageCount log → markAt log page ≡ 1 → idAt log page ≡ id → idSize ≤ lengthAt log page
@@ -67,3 +68,29 @@ module _ (store : List ℕ) (st : State) (id position len : ℕ) where
             (side (length out) n)
         go (absent p) f = absurd (not-absent p out (sym (absent-nothing store st id out p f) ∙ e))
         go (refused number value) f = absurd (not-refused number value out (sym (refused-nothing store st id out number value f) ∙ e))
+
+-- ---- a lookup that was refused 10 found an entry of so many bytes
+
+module _ (store : List ℕ) (st : State) (id needed : ℕ) (out left : List ℕ) where
+  pub record TooSmall : Type 0 where
+    pub position : ℕ
+    pub at : findOf store st id ≡ found position needed
+
+  is-ten : (r : Looking) (x : List ℕ) → withOutput r x ≡ withOutput (refused 10 needed) left → r ≡ refused 10 needed
+  is-ten r x f = ap (λ (y : WithOutput Looking). y .answer) f
+
+  pub looked-ten : lookupOf store st id out ≡ withOutput (refused 10 needed) left → TooSmall
+  looked-ten e = go (findOf store st id) refl
+    where
+      go : (r : Looking) → findOf store st id ≡ r → TooSmall
+      go (found p n) f = ⊎-elim
+          (λ l.
+          let r = is-ten (refused 10 n) _ (sym (found-small store st id out p n f l) ∙ e) in
+          let b : n ≡ needed = cc in
+          record { position = p; at = rw b at f })
+          (λ l. absurd (let r = is-ten (found p n) _ (sym (found-copied store st id out p n f (p / pageSize) refl l) ∙ e) in let z : _≡_ {A = ℕ} 0 1 = cc in omega arith))
+          (side (length out) n)
+      go (absent p) f = absurd (let r = is-ten (absent p) _ (sym (absent-nothing store st id out p f) ∙ e) in let z : _≡_ {A = ℕ} 0 1 = cc in omega arith)
+      go (refused number value) f =
+          let r = is-ten (refused number value) _ (sym (refused-nothing store st id out number value f) ∙ e) in
+          absurd (find-never-ten store st id needed (f ∙ r))

@@ -1,17 +1,17 @@
 -- A state in which the last id of all is written: no id is handed out and no entry is taken. Assumes nothing.
 use Prim.Native.Nat.{ℕ, zero, suc}
-use mathlib.Core.Path.{_≡_, refl}
+use mathlib.Core.Path.{_≡_, refl, sym}
 use mathlib.Core.List.{List}
 use lib.ListN.{length}
 use native.Mathlib.Omega.{arith}
 use Rattle.log.specs.State.{stateOf, topId, refused, takeOf}
+use Rattle.log.proofs.Laws.States.{take-refused}
 use Rattle.pushing.specs.Push.{Point, point, Done, entriesFrom, pushOf}
 use Rattle.demands.specs.History.{Words}
 use Rattle.demands.proofs.Push.Ways.{by-batch, by-turn}
 
 pub full-hands-none : (n : ℕ) → takeOf (stateOf n topId topId topId) ≡ refused 9 0
-unfolding takeOf
-full-hands-none n = refl
+full-hands-none n = sym (take-refused (stateOf n topId topId topId) refl)
 
 -- shut, so that antt sees which push it is asked of
 NoneWritten : Done → Type 0

@@ -21,12 +21,12 @@ slice-aggregate-walk-back c = part-length _ _ (sym (c .before .before .is-too-lo
 walk-back-requires : tie.Need-walk-back-requires
 walk-back-requires c κs = omega (arith, slice-aggregate-walk-back c)
 
-above-requires : tie.Need-above-requires
-above-requires c κs = tt
+above-stored-requires : tie.Need-above-stored-requires
+above-stored-requires c κs = tt
 
 returns-2 : tie.Need-returns-2
 returns-2 c =
-    c .above .ensures
+    c .above-stored .ensures
     ∙ ap (aboveStored _) (c .before .walk-back .ensures)
     ∙ recover-cut _ _ _ (sym (c .before .before .before .before .is-too-long .ensures) ∙ c .before .before .before .if1 .left) _ (slice-aggregate-walk-back (c .before .before)) (omega arith)
 
@@ -39,5 +39,5 @@ recover-spec =
     sub-walk-back
     slice-aggregate-walk-back
     walk-back-requires
-    above-requires
+    above-stored-requires
     returns-2)
