@@ -5,6 +5,7 @@ use std::{
     fmt,
     fs::{self, File, OpenOptions},
     io::{self, Read, Seek, SeekFrom, Write},
+    os::unix::fs::MetadataExt,
     path::{Path, PathBuf},
 };
 
@@ -88,7 +89,23 @@ impl Files {
         }
         file.try_lock().map_err(io::Error::from)?;
         self.log = Some(file);
-        Ok(())
+        self.test_place()
+    }
+
+    /// That the log which is held, if one is, has its name still: the lock is on the file, wherever that is moved to,
+    /// but the ceiling is stored by the name, and there it may be another log's by now.
+    fn test_place(&self) -> io::Result<()> {
+        let Some(log) = &self.log else { return Ok(()) };
+        let held = log.metadata()?;
+        // A link to where it was moved is not its name: openings by the link look for the ceiling over there.
+        match fs::symlink_metadata(&self.path) {
+            Ok(found) if (found.dev(), found.ino()) == (held.dev(), held.ino()) => Ok(()),
+            Err(error) if error.kind() != io::ErrorKind::NotFound => Err(error),
+            _ => Err(io::Error::other(format!(
+                "the log {} was moved, replaced or removed while it was open",
+                self.path.display()
+            ))),
+        }
     }
 
     fn log(&mut self) -> &mut File {
@@ -220,6 +237,7 @@ impl Disk for Files {
 
     fn write_new(&mut self, bytes: &[u8]) -> io::Result<()> {
         self.new = None; // one that failed goes first
+        self.test_place()?; // before the name of the new file is touched: it may be another log's
         let new = self.make_new()?;
         self.new.insert(new).file.write_all(bytes)
     }
@@ -229,6 +247,7 @@ impl Disk for Files {
     }
 
     fn rename_new(&mut self) -> io::Result<()> {
+        self.test_place()?; // again, as the sync took its time
         self.named = true;
         fs::rename(&self.new.take().expect(WRITTEN_FIRST).path, &self.ceiling)
     }
@@ -306,6 +325,41 @@ mod tests {
             assert_eq!(files.read_ceiling().unwrap(), Some(b"first".to_vec()));
         }
         assert_eq!(fs::read_dir(&folder).unwrap().count(), 1); // the names of their own are gone
+        fs::remove_dir_all(&folder).unwrap();
+    }
+
+    /// Between any two steps: what is in the place of the log's ceiling stays. By whole calls: tests/file.rs.
+    #[test]
+    fn a_log_that_is_moved_stores_no_ceiling() {
+        let folder = std::env::temp_dir().join(format!("awirbesh-{}-moved", std::process::id()));
+        fs::create_dir(&folder).unwrap();
+        let (log, old) = (folder.join("log"), folder.join("old"));
+        let moved = |answer: io::Result<()>| assert!(answer.unwrap_err().to_string().contains("was moved"));
+        fs::write(&log, "").unwrap();
+        let mut files = Files::at(&log).unwrap();
+        // After it was opened, and before it is locked.
+        let opened = options().open(&log).unwrap();
+        fs::rename(&log, &old).unwrap();
+        moved(files.hold(opened));
+        drop(files);
+        fs::rename(&old, &log).unwrap();
+        // Before the new file, and before it gets the name.
+        for steps in 0..2 {
+            let mut files = Files::at(&log).unwrap();
+            assert!(files.open().unwrap());
+            if steps > 0 {
+                files.write_new(b"lower").unwrap();
+                files.sync_new().unwrap();
+            }
+            fs::rename(&log, &old).unwrap();
+            fs::write(&log, "").unwrap();
+            fs::write(&files.ceiling, "another's").unwrap();
+            moved(if steps > 0 { files.rename_new() } else { files.write_new(b"lower") });
+            assert_eq!(files.read_ceiling().unwrap(), Some(b"another's".to_vec()));
+            drop(files);
+            assert_eq!(fs::read_dir(&folder).unwrap().count(), 3);
+            fs::rename(&old, &log).unwrap();
+        }
         fs::remove_dir_all(&folder).unwrap();
     }
 }

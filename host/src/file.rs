@@ -52,8 +52,8 @@ const STEP: u64 = 1_024;
 /// Beside the log stands its ceiling file, in the folder where the log really is and with `.ceiling` appended to the
 /// log's name: one line of text, the number below which ids may have been handed out. So an id that was handed out
 /// stays used, whether or not it was pushed, across restarts and power failures. The two files belong together: move
-/// them together, and know that an older copy of them hands ids out again. Of a log with two hard links only the name
-/// that it was made under has the ceiling.
+/// them together, and not while the log is open; and know that an older copy of them hands ids out again. Of a log with
+/// two hard links only the name that it was made under has the ceiling.
 #[derive(Debug)]
 pub struct LogFile {
     disk: Box<dyn Disk>,
@@ -191,9 +191,9 @@ impl LogFile {
     /// entry with it is pushed.
     ///
     /// Where no id is left below the ceiling, a higher one is stored first, a step above: the new file and the folder
-    /// are synced. The other ids of the step cost nothing. If the ceiling cannot be stored, the error is [`Error::Io`],
-    /// no id is handed out, and the next take tries again. The step is smaller before the last id, 2^64-2; after that
-    /// all takes are refused with [`Refusal::IdsUsedUp`].
+    /// are synced. The other ids of the step cost nothing. If the ceiling cannot be stored, or the log is not where it
+    /// was opened any more, the error is [`Error::Io`], no id is handed out, and the next take tries again. The step is
+    /// smaller before the last id, 2^64-2; after that all takes are refused with [`Refusal::IdsUsedUp`].
     ///
     /// An opening does not know how many of a step's ids were taken, and begins at the ceiling. So at each restart
     /// fewer ids than the step are left out for good, or all of one step if a crash came while it was stored.

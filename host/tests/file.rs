@@ -693,6 +693,56 @@ fn a_log_that_many_make_at_once_hands_each_id_out_once() {
     }
 }
 
+/// The lock goes with the file, and the ceiling by the name: no id is handed out under a ceiling that is not beside the
+/// log, and the ceiling of the log that now has the name stays.
+#[test]
+fn a_log_that_is_moved_while_it_is_open_hands_out_no_id() {
+    let scratch = Scratch::new("moved-open");
+    let (folder, old) = (scratch.0.join("folder"), scratch.0.join("old"));
+    fs::create_dir_all(&folder).unwrap();
+    let path = folder.join("log");
+    let mut log = LogFile::open(&path, CAPACITY).unwrap();
+    log.set_step(1).unwrap();
+    let mut next = 1;
+    let is_told = |log: &mut LogFile| {
+        let (before, ceiling) = (log.log().state(), fs::read(ceiling_of(&path)).ok());
+        let said = io_error(log.take()).to_string();
+        assert!(said.contains("was moved, replaced or removed while it was open"), "{said}");
+        assert_eq!((log.log().state(), fs::read(ceiling_of(&path)).ok()), (before, ceiling));
+    };
+    let mut goes_on = |log: &mut LogFile| {
+        assert_eq!(log.take().unwrap(), next);
+        next += 1;
+    };
+    goes_on(&mut log);
+    // The log alone, away and back; a link leads to it, but not to its ceiling.
+    fs::rename(&path, &old).unwrap();
+    is_told(&mut log);
+    std::os::unix::fs::symlink(&old, &path).unwrap();
+    is_told(&mut log);
+    fs::remove_file(&path).unwrap();
+    fs::rename(&old, &path).unwrap();
+    goes_on(&mut log);
+    // Its folder, away and back.
+    fs::rename(&folder, &old).unwrap();
+    is_told(&mut log);
+    fs::create_dir(&folder).unwrap();
+    is_told(&mut log);
+    assert_eq!(LogFile::open(&path, CAPACITY).unwrap().take().unwrap(), 1);
+    is_told(&mut log);
+    fs::remove_dir_all(&folder).unwrap();
+    fs::rename(&old, &folder).unwrap();
+    goes_on(&mut log);
+    // Another log gets its name, and raises the ceiling that was left there.
+    fs::rename(&path, &old).unwrap();
+    let mut other = LogFile::open(&path, CAPACITY).unwrap();
+    assert_eq!(other.take().unwrap(), 4);
+    is_told(&mut log);
+    drop(other);
+    is_told(&mut log);
+    assert_eq!(LogFile::open(&path, CAPACITY).unwrap().take().unwrap(), 4 + 1_024);
+}
+
 #[test]
 fn a_dropped_id_is_not_handed_out_after_a_restart() {
     let path = Scratch::new("dropped");
