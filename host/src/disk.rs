@@ -276,6 +276,7 @@ fn sync_folder(opened: io::Result<File>, named: bool) -> io::Result<()> {
 
 impl Drop for Files {
     fn drop(&mut self) {
+        self.new = None; // under the lock, without which the name may be another process's new file
         if let Some(log) = &self.log {
             let _ = log.unlock();
         }

@@ -477,6 +477,25 @@ fn an_id_whose_ceiling_is_not_stored_is_not_handed_out() {
     }
 }
 
+/// A new ceiling that failed is removed before the lock goes: after that its name may be that of another process's.
+#[test]
+fn a_new_ceiling_that_failed_goes_under_the_lock() {
+    if let Some(path) = own_process() {
+        let mut log = LogFile::open(path, CAPACITY).unwrap();
+        io_error(log.take());
+        env::set_var("RECORD_UNLOCKS", "");
+        drop(log);
+        return;
+    }
+    let recorder = Recorder::new("unlocked");
+    let log = recorder.folder.join("log");
+    LogFile::open(&log, CAPACITY).unwrap();
+    let (test, fails) = ("a_new_ceiling_that_failed_goes_under_the_lock", "sync /log.ceiling.new");
+    let asked = recorder.run_failing(test, &log, "", fails);
+    let failed = format!("write /log.ceiling.new\n{fails}\n");
+    assert_eq!(asked, format!("{OPENED}{failed}remove /log.ceiling.new\nunlock /log\n"));
+}
+
 /// For a process that modes bind: if this is root's, one of another user's.
 #[test]
 fn a_folder_that_may_not_be_read() {

@@ -1,6 +1,7 @@
 /* Preloaded into a test's process on Linux: notes each write, cut, sync, rename and link of the files in a folder, in
  * order, and then makes it; of a rename or link it notes the new name. The environment names the folder and the list;
  * in RECORD_FAILS it may have a line of the list, such as "sync /log": then what is noted so is not made, and fails.
+ * With RECORD_UNLOCKS each file that is removed or unlocked is noted too.
  * With RECORD_SIGXFSZ a write beyond the limit of a file's size kills the process, also if it was started by one that
  * ignores that signal. */
 #define _GNU_SOURCE
@@ -10,6 +11,7 @@
 #include <stdio.h>
 #include <stdlib.h>
 #include <string.h>
+#include <sys/file.h>
 #include <sys/syscall.h>
 #include <unistd.h>
 
@@ -70,4 +72,16 @@ int rename(const char *from, const char *to)
 int linkat(int from_folder, const char *from, int to_folder, const char *to, int flags)
 {
     return note_name("link", to) ? -1 : (int)syscall(SYS_linkat, from_folder, from, to_folder, to, flags);
+}
+
+int unlink(const char *name)
+{
+    return getenv("RECORD_UNLOCKS") && note_name("remove", name) ? -1 : (int)syscall(SYS_unlink, name);
+}
+
+int flock(int file, int operation)
+{
+    if (operation == LOCK_UN && getenv("RECORD_UNLOCKS") && note("unlock", file))
+        return -1;
+    return (int)syscall(SYS_flock, file, operation);
 }
