@@ -99,9 +99,9 @@ impl LogFile {
     }
 
     /// Opens a log whose ceiling file is missing or damaged, or that was written before there were such files, with a
-    /// ceiling that the caller knows: it must be above every id that was ever handed out. If each of those was pushed,
-    /// 0 will do, as the ceiling is never below the last stored id + 1. If ids were handed out and dropped, as of
-    /// what-if sessions, that is not enough: those after the last stored id would be handed out again.
+    /// ceiling that the caller knows: it must be above every id that was ever handed out. If the greatest of them is in
+    /// the log, whole, 0 will do, as the ceiling is never below the last stored id + 1. An id whose entry a crash tore,
+    /// or that was handed out and dropped, is not there: those after the last stored id would be handed out again.
     ///
     /// The ceiling is stored before this returns, and from then on [`LogFile::open`] opens the log. If there is a
     /// ceiling file that is well, it is an error, and nothing changes. All else is as in [`LogFile::open`].

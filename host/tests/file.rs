@@ -891,6 +891,22 @@ fn a_log_from_before_is_adopted() {
     assert!(!ceiling_of(&path.0).exists());
 }
 
+/// Every id was pushed, and still 0 is too low a ceiling where the last entry is not whole.
+#[test]
+fn the_id_of_a_torn_entry_is_known_by_the_ceiling_alone() {
+    let path = Scratch::new("torn-adopted");
+    let mut log = Log::with_capacity(CAPACITY);
+    log.push(&settled()).unwrap();
+    for length in [1_025, 2_047, 2_048] {
+        for ceiling in [0, 3] {
+            fs::write(&path.0, &log.bytes()[..length]).unwrap();
+            let id = LogFile::adopt(&path.0, CAPACITY, ceiling).unwrap().take().unwrap();
+            assert_eq!(id, if length < 2_048 && ceiling == 0 { 2 } else { 3 });
+            fs::remove_file(ceiling_of(&path.0)).unwrap();
+        }
+    }
+}
+
 /// The ceiling is where the log is, also for a log that is made through a link, and nothing is where the link is.
 #[test]
 fn a_linked_log_has_its_ceiling_beside_it() {
