@@ -26,6 +26,8 @@ pub enum CeilingFault {
     Damaged,
     /// A log was to be adopted, and its ceiling file is well.
     Intact,
+    /// A log was to be adopted, and its file has another name too, a hard link, which may have the ceiling.
+    SecondName,
 }
 
 impl fmt::Display for CeilingError {
@@ -33,10 +35,18 @@ impl fmt::Display for CeilingError {
         let file = self.file.display();
         match self.fault {
             CeilingFault::Missing => {
-                write!(f, "the log has no ceiling file {file}: if the log was moved, move that file too; else {ADOPT}")
+                write!(
+                    f,
+                    "the log has no ceiling file {file}: if the log was moved, move that file too; if it has a "
+                )?;
+                write!(f, "second name, a hard link, open it by the name that it was made under; else {ADOPT}")
             }
             CeilingFault::Damaged => write!(f, "the ceiling file {file} is damaged: {ADOPT}"),
             CeilingFault::Intact => write!(f, "the ceiling file {file} is intact: open the log by LogFile::open"),
+            CeilingFault::SecondName => {
+                write!(f, "the log has a second name, a hard link, and its ceiling may be beside that, not {file}: ")?;
+                write!(f, "open it by the name that it was made under; a log is adopted once it has one name alone")
+            }
         }
     }
 }
@@ -96,6 +106,14 @@ pub(crate) fn refuse_intact(disk: &mut dyn Disk) -> Result<(), Error> {
     match read(disk)? {
         Ok(_) => Err(error(disk, CeilingFault::Intact)),
         Err(_) => Ok(()),
+    }
+}
+
+/// For a log that is to be adopted and is open: with a ceiling beside each of two names ids would come twice.
+pub(crate) fn refuse_second_name(disk: &mut dyn Disk) -> Result<(), Error> {
+    match disk.names()? {
+        0 | 1 => Ok(()),
+        _ => Err(error(disk, CeilingFault::SecondName)),
     }
 }
 

@@ -18,6 +18,8 @@ pub(crate) trait Disk: fmt::Debug + Send + Sync {
     fn open(&mut self) -> io::Result<bool>;
     /// Makes the log's file, empty, or opens one that another process just made.
     fn make(&mut self) -> io::Result<()>;
+    /// How many names the log's file has: hard links.
+    fn names(&mut self) -> io::Result<u64>;
     fn length(&mut self) -> io::Result<u64>;
     /// Reads the file's first bytes, as many as the buffer has.
     fn read(&mut self, bytes: &mut [u8]) -> io::Result<()>;
@@ -190,6 +192,10 @@ impl Disk for Files {
         self.named = true;
         let made = options().create(true).open(&self.path)?;
         self.hold(made)
+    }
+
+    fn names(&mut self) -> io::Result<u64> {
+        Ok(self.log().metadata()?.nlink())
     }
 
     fn length(&mut self) -> io::Result<u64> {

@@ -104,7 +104,8 @@ impl LogFile {
     /// or that was handed out and dropped, is not there: those after the last stored id would be handed out again.
     ///
     /// The ceiling is stored before this returns, and from then on [`LogFile::open`] opens the log. If there is a
-    /// ceiling file that is well, it is an error, and nothing changes. All else is as in [`LogFile::open`].
+    /// ceiling file that is well, or the log's file has a second hard link, it is an error, and nothing changes. All
+    /// else is as in [`LogFile::open`].
     pub fn adopt(path: impl AsRef<Path>, capacity: usize, ceiling: u64) -> Result<LogFile, Error> {
         LogFile::adopt_on(Box::new(Files::at(path.as_ref())?), capacity, ceiling)
     }
@@ -116,6 +117,7 @@ impl LogFile {
         }
         // Once more under the lock: another process may have made the log just now.
         ceiling::refuse_intact(&mut *disk)?;
+        ceiling::refuse_second_name(&mut *disk)?;
         let mut log = LogFile::recover(disk, capacity, ceiling)?;
         ceiling::store(&mut *log.disk, log.log.state().ceiling)?;
         Ok(log)

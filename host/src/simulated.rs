@@ -421,6 +421,10 @@ impl Disk for Handle {
         end.and_then(|()| self.lock())
     }
 
+    fn names(&mut self) -> io::Result<u64> {
+        self.disk.begin(0, None).1.map(|()| 1)
+    }
+
     fn length(&mut self) -> io::Result<u64> {
         self.disk.begin(0, None).1.map(|()| self.disk.bytes().len() as u64)
     }

@@ -891,6 +891,26 @@ fn a_log_from_before_is_adopted() {
     assert!(!ceiling_of(&path.0).exists());
 }
 
+/// By another name of its file a log has no ceiling, and gets none: with two of them ids would come twice.
+#[test]
+fn a_log_with_a_second_hard_link_is_not_adopted() {
+    let (path, second) = (Scratch::new("first-link"), Scratch::new("second-link"));
+    LogFile::open(&path.0, CAPACITY).unwrap().take().unwrap();
+    fs::hard_link(&path.0, &second.0).unwrap();
+    let (fault, said) = ceiling_fault(&second.0, |path| LogFile::open(path, CAPACITY));
+    assert!(fault == CeilingFault::Missing && said.contains("hard link"), "{said}");
+    for damaged in [false, true] {
+        if damaged {
+            fs::write(ceiling_of(&second.0), "").unwrap();
+        }
+        let (fault, said) = ceiling_fault(&second.0, |path| LogFile::adopt(path, CAPACITY, 0));
+        assert!(fault == CeilingFault::SecondName && said.contains("hard link"), "{said}");
+    }
+    assert_eq!(LogFile::open(&path.0, CAPACITY).unwrap().take().unwrap(), 1_025);
+    fs::remove_file(&path.0).unwrap();
+    assert_eq!(LogFile::adopt(&second.0, CAPACITY, 2_049).unwrap().take().unwrap(), 2_049);
+}
+
 /// Every id was pushed, and still 0 is too low a ceiling where the last entry is not whole.
 #[test]
 fn the_id_of_a_torn_entry_is_known_by_the_ceiling_alone() {
