@@ -22,6 +22,8 @@ pub struct CeilingError {
 pub enum CeilingFault {
     /// There is a log, and no ceiling file beside it.
     Missing,
+    /// What has its name is no file, such as a folder, or a link that leads nowhere.
+    NoFile,
     /// What it holds is no ceiling.
     Damaged,
     /// A log was to be adopted, and its ceiling file is well.
@@ -34,19 +36,23 @@ impl fmt::Display for CeilingError {
     fn fmt(&self, f: &mut fmt::Formatter<'_>) -> fmt::Result {
         let file = self.file.display();
         match self.fault {
-            CeilingFault::Missing => {
-                write!(
-                    f,
-                    "the log has no ceiling file {file}: if the log was moved, move that file too; if it has a "
-                )?;
-                write!(f, "second name, a hard link, open it by the name that it was made under; else {ADOPT}")
-            }
+            CeilingFault::Missing => write!(
+                f,
+                "the log has no ceiling file {file}: if the log was moved, move that file too; if it has a second \
+                 name, a hard link, open it by the name that it was made under; else {ADOPT}"
+            ),
+            CeilingFault::NoFile => write!(
+                f,
+                "what is at {file} is no file, or a link that leads nowhere: remove what is there, and put the log's \
+                 ceiling file there if you have it; then open the log"
+            ),
             CeilingFault::Damaged => write!(f, "the ceiling file {file} is damaged: {ADOPT}"),
             CeilingFault::Intact => write!(f, "the ceiling file {file} is intact: open the log by LogFile::open"),
-            CeilingFault::SecondName => {
-                write!(f, "the log has a second name, a hard link, and its ceiling may be beside that, not {file}: ")?;
-                write!(f, "open it by the name that it was made under; a log is adopted once it has one name alone")
-            }
+            CeilingFault::SecondName => write!(
+                f,
+                "the log has a second name, a hard link, and its ceiling may be beside that, not {file}: open it by \
+                 the name that it was made under; a log is adopted once it has one name alone"
+            ),
         }
     }
 }
@@ -79,10 +85,8 @@ fn checksum(text: &[u8]) -> u64 {
 
 /// The ceiling that is stored, or what is wrong with it.
 fn read(disk: &mut dyn Disk) -> io::Result<Result<u64, CeilingFault>> {
-    Ok(match disk.read_ceiling().map_err(|error| failed("read", disk, error))? {
-        None => Err(CeilingFault::Missing),
-        Some(bytes) => ceiling_in(&bytes).ok_or(CeilingFault::Damaged),
-    })
+    let bytes = disk.read_ceiling().map_err(|error| failed("read", disk, error))?;
+    Ok(bytes.and_then(|bytes| ceiling_in(&bytes).ok_or(CeilingFault::Damaged)))
 }
 
 /// The system's error, with what it was about.
@@ -101,11 +105,13 @@ pub(crate) fn stored(disk: &mut dyn Disk) -> Result<u64, Error> {
     read(disk)?.map_err(|fault| error(disk, fault))
 }
 
-/// For a log that is to be adopted.
-pub(crate) fn refuse_intact(disk: &mut dyn Disk) -> Result<(), Error> {
+/// For a log that is to be adopted: whether a damaged ceiling is to be replaced, or a missing one stored.
+pub(crate) fn to_replace(disk: &mut dyn Disk) -> Result<bool, Error> {
     match read(disk)? {
         Ok(_) => Err(error(disk, CeilingFault::Intact)),
-        Err(_) => Ok(()),
+        Err(CeilingFault::Missing) => Ok(false),
+        Err(CeilingFault::Damaged) => Ok(true),
+        Err(fault) => Err(error(disk, fault)),
     }
 }
 

@@ -9,7 +9,7 @@ use std::{
     path::{Path, PathBuf},
 };
 
-use crate::ceiling;
+use crate::{ceiling, CeilingFault};
 
 /// A log's file, its ceiling file, and their names in one folder. Until a sync returns, a crash may undo what was asked
 /// for before it. The log's file is opened or made before its bytes are asked for, and is locked from then on.
@@ -34,8 +34,8 @@ pub(crate) trait Disk: fmt::Debug + Send + Sync {
     fn sync_names(&mut self) -> io::Result<()>;
 
     fn ceiling_path(&self) -> &Path;
-    /// The bytes of the ceiling file, of a longer one than a ceiling takes only the first; none if there is no file.
-    fn read_ceiling(&mut self) -> io::Result<Option<Vec<u8>>>;
+    /// The bytes of the ceiling file, of a longer one than a ceiling takes only the first; or that there is no file.
+    fn read_ceiling(&mut self) -> io::Result<Result<Vec<u8>, CeilingFault>>;
     /// Makes a new file with these bytes. Nobody reads it before it has the ceiling file's name.
     fn write_new(&mut self, bytes: &[u8]) -> io::Result<()>;
     /// Waits until the new file's bytes are on the disk.
@@ -228,17 +228,23 @@ impl Disk for Files {
         &self.ceiling
     }
 
-    fn read_ceiling(&mut self) -> io::Result<Option<Vec<u8>>> {
-        let found = match fs::metadata(&self.ceiling) {
-            Err(error) if error.kind() == io::ErrorKind::NotFound => return Ok(None),
-            found => found?,
+    fn read_ceiling(&mut self) -> io::Result<Result<Vec<u8>, CeilingFault>> {
+        let is_file = match fs::metadata(&self.ceiling) {
+            Err(error) if error.kind() == io::ErrorKind::NotFound => {
+                // A link that leads nowhere has the name, and would keep a new file from it.
+                if !fs::symlink_metadata(&self.ceiling).is_ok_and(|found| found.is_symlink()) {
+                    return Ok(Err(CeilingFault::Missing));
+                }
+                false
+            }
+            found => found?.is_file(),
         };
-        let mut bytes = Vec::new();
-        // Anything but a file is no ceiling, and is not opened: a pipe would wait for a writer.
-        if found.is_file() {
-            File::open(&self.ceiling)?.take(ceiling::LONGEST as u64 + 1).read_to_end(&mut bytes)?;
+        if !is_file {
+            return Ok(Err(CeilingFault::NoFile)); // and not opened: a pipe would wait for a writer
         }
-        Ok(Some(bytes))
+        let mut bytes = Vec::new();
+        File::open(&self.ceiling)?.take(ceiling::LONGEST as u64 + 1).read_to_end(&mut bytes)?;
+        Ok(Ok(bytes))
     }
 
     fn write_new(&mut self, bytes: &[u8]) -> io::Result<()> {
@@ -329,7 +335,7 @@ mod tests {
         for files in &mut both {
             files.sync_new().unwrap();
             files.link_new().unwrap();
-            assert_eq!(files.read_ceiling().unwrap(), Some(b"first".to_vec()));
+            assert_eq!(files.read_ceiling().unwrap(), Ok(b"first".to_vec()));
         }
         assert_eq!(fs::read_dir(&folder).unwrap().count(), 1); // the names of their own are gone
         fs::remove_dir_all(&folder).unwrap();
@@ -362,7 +368,7 @@ mod tests {
             fs::write(&log, "").unwrap();
             fs::write(&files.ceiling, "another's").unwrap();
             moved(if steps > 0 { files.rename_new() } else { files.write_new(b"lower") });
-            assert_eq!(files.read_ceiling().unwrap(), Some(b"another's".to_vec()));
+            assert_eq!(files.read_ceiling().unwrap(), Ok(b"another's".to_vec()));
             drop(files);
             assert_eq!(fs::read_dir(&folder).unwrap().count(), 3);
             fs::rename(&old, &log).unwrap();

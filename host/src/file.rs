@@ -77,13 +77,13 @@ impl LogFile {
     /// is a sign of damage. What a disk may leave of bytes that were not synced and not kept in order: 12.7.
     ///
     /// A log with a missing or damaged ceiling file is left alone too, with [`Error::Ceiling`]: which ids were handed
-    /// out is not known then, and [`LogFile::adopt`] is to be told. No crash leaves a log so. A ceiling file whose log
-    /// is not there is used for the log that is made: the ids of one that was removed stay used.
+    /// out is not known then, and [`LogFile::adopt`] is to be told. No crash loses a ceiling, or damages it. A ceiling
+    /// file whose log is not there is used for the log that is made: the ids of one that was removed stay used.
     ///
-    /// The files and their names are synced first, and a disk that does not sync is an error. One thing is passed over:
-    /// files that were there already, in a folder that this process may search but not read, and so not sync; whoever
-    /// made them had to sync their names. Errors too: the log is open already, here or elsewhere; the path leads to
-    /// something other than a regular file, such as a device; there is no memory for the store.
+    /// The log's file and the names are synced first, and a disk that does not sync is an error. One thing is passed
+    /// over: files that were there already, in a folder that this process may search but not read, and so not sync;
+    /// whoever made them had to sync their names. Errors too: the log is open already, here or elsewhere; the path
+    /// leads to something other than a regular file, such as a device; there is no memory for the store.
     pub fn open(path: impl AsRef<Path>, capacity: usize) -> Result<LogFile, Error> {
         LogFile::open_on(Box::new(Files::at(path.as_ref())?), capacity)
     }
@@ -104,19 +104,21 @@ impl LogFile {
     /// or that was handed out and dropped, is not there: those after the last stored id would be handed out again.
     ///
     /// The ceiling is stored before this returns, and from then on [`LogFile::open`] opens the log. If there is a
-    /// ceiling file that is well, or the log's file has a second hard link, it is an error, and nothing changes. All
-    /// else is as in [`LogFile::open`].
+    /// ceiling file that is well, or the log's file has a second hard link, it is an error, and nothing changes. So it
+    /// is if there is no log, unless a damaged ceiling file has its place. All else is as in [`LogFile::open`].
     pub fn adopt(path: impl AsRef<Path>, capacity: usize, ceiling: u64) -> Result<LogFile, Error> {
         LogFile::adopt_on(Box::new(Files::at(path.as_ref())?), capacity, ceiling)
     }
 
     pub(crate) fn adopt_on(mut disk: Box<dyn Disk>, capacity: usize, ceiling: u64) -> Result<LogFile, Error> {
         if !disk.open()? {
-            ceiling::refuse_intact(&mut *disk)?;
+            if !ceiling::to_replace(&mut *disk)? {
+                return Err(io::Error::new(io::ErrorKind::NotFound, "there is no log to adopt").into());
+            }
             disk.make()?;
         }
         // Once more under the lock: another process may have made the log just now.
-        ceiling::refuse_intact(&mut *disk)?;
+        ceiling::to_replace(&mut *disk)?;
         ceiling::refuse_second_name(&mut *disk)?;
         let mut log = LogFile::recover(disk, capacity, ceiling)?;
         ceiling::store(&mut *log.disk, log.log.state().ceiling)?;
@@ -198,7 +200,8 @@ impl LogFile {
     /// smaller before the last id, 2^64-2; after that all takes are refused with [`Refusal::IdsUsedUp`].
     ///
     /// An opening does not know how many of a step's ids were taken, and begins at the ceiling. So at each restart
-    /// fewer ids than the step are left out for good, or all of one step if a crash came while it was stored.
+    /// fewer ids than the step are left out for good, or all of one step if a crash or a failure came while it was
+    /// stored.
     pub fn take(&mut self) -> Result<u64, Error> {
         match self.log.take() {
             Err(Refusal::CeilingReached) => {

@@ -239,14 +239,21 @@ fn another_process_may_open_the_log_at_the_same_time() {
     }
     // The third operation makes the log.
     for operation in 0..4 {
-        let disk = Simulated::new();
-        disk.set_meanwhile(operation, other);
+        let disk = Simulated::holding(None, Some(b"damaged"));
+        disk.set_meanwhile(operation, |disk| drop(LogFile::adopt_on(disk.handle(), CAPACITY, 7)));
         let adopted = LogFile::adopt_on(disk.handle(), CAPACITY, 5);
         match operation < 3 {
             true => assert_eq!(fault_of(adopted), CeilingFault::Intact),
             false => assert_eq!(adopted.unwrap().take().unwrap(), 5),
         }
-        assert_eq!(open(&disk).unwrap().take().unwrap(), if operation < 3 { 1_025 } else { 1_029 });
+        assert_eq!(open(&disk).unwrap().take().unwrap(), if operation < 3 { 7 } else { 1_029 });
+    }
+    // Where nothing is to be adopted the second is the last.
+    for operation in 0..2 {
+        let disk = Simulated::new();
+        disk.set_meanwhile(operation, other);
+        assert_eq!(fault_of(LogFile::adopt_on(disk.handle(), CAPACITY, 5)), CeilingFault::Intact);
+        assert_eq!(open(&disk).unwrap().take().unwrap(), 1_025);
     }
 }
 
@@ -285,6 +292,18 @@ fn a_log_without_its_ceiling_is_left_alone() {
         assert_eq!(fault_of(open(&disk)), fault);
         assert_eq!((disk.operations(), disk.bytes(), disk.restarts(0).len()), (2, bytes, 1));
     }
+}
+
+/// Nothing is made for an adoption.
+#[test]
+fn neither_a_log_nor_a_ceiling() {
+    let disk = Simulated::new();
+    match LogFile::adopt_on(disk.handle(), CAPACITY, 5) {
+        Err(Error::Io(error)) => assert_eq!(error.kind(), std::io::ErrorKind::NotFound),
+        other => panic!("{other:?}"),
+    }
+    assert_eq!((disk.operations(), disk.restarts(0).len()), (2, 1));
+    assert_eq!(open(&disk).unwrap().take().unwrap(), 1);
 }
 
 /// A ceiling that is damaged is told of before a log is made; one that is well is used.

@@ -7,7 +7,7 @@ use std::{
     sync::{Arc, Mutex, MutexGuard},
 };
 
-use crate::{ceiling, disk::Disk};
+use crate::{ceiling, disk::Disk, CeilingFault};
 
 /// What a disk writes whole or not at all.
 const SECTOR: usize = 512;
@@ -467,10 +467,10 @@ impl Disk for Handle {
         Path::new("log.ceiling")
     }
 
-    fn read_ceiling(&mut self) -> io::Result<Option<Vec<u8>>> {
+    fn read_ceiling(&mut self) -> io::Result<Result<Vec<u8>, CeilingFault>> {
         self.disk.begin(0, None).1?;
         let inside = self.disk.inside();
-        Ok(inside.shown.ceiling.map(|file| inside.files[file].shown.clone()))
+        Ok(inside.shown.ceiling.map(|file| inside.files[file].shown.clone()).ok_or(CeilingFault::Missing))
     }
 
     fn write_new(&mut self, bytes: &[u8]) -> io::Result<()> {

@@ -861,11 +861,45 @@ fn a_log_with_a_damaged_ceiling_file_is_not_opened() {
         Err(Error::Ceiling(error)) => assert_eq!(error.fault, CeilingFault::Damaged),
         other => panic!("{:?}", other.map(|log| log.log().state())),
     }
-    fs::remove_file(&ceiling).unwrap();
-    assert!(Command::new("mkfifo").arg(&ceiling).status().unwrap().success());
-    assert!(matches!(LogFile::open(&path.0, CAPACITY), Err(Error::Ceiling(_)))); // and waits for no writer
     assert_eq!(LogFile::adopt(&path.0, CAPACITY, 9).unwrap().take().unwrap(), 9);
     assert_eq!(fs::read(&path.0).unwrap(), one_entry());
+}
+
+/// A folder, a pipe or a link that leads nowhere in the ceiling file's place: the error says to remove it, with and
+/// without a log, and no log is made.
+#[test]
+fn what_has_the_ceiling_file_s_name_and_is_no_file_is_left_alone() {
+    let path = Scratch::new("no-file");
+    let ceiling = ceiling_of(&path.0);
+    let make_pipe = |ceiling: &Path| assert!(Command::new("mkfifo").arg(ceiling).status().unwrap().success());
+    let makers: [&dyn Fn(&Path); 3] = [
+        &|ceiling| fs::create_dir(ceiling).unwrap(),
+        &make_pipe, // and nobody waits for a writer
+        &|ceiling| std::os::unix::fs::symlink("nowhere", ceiling).unwrap(),
+    ];
+    for (make, bytes) in makers.into_iter().flat_map(|make| [(make, None), (make, Some(one_entry()))]) {
+        make(&ceiling);
+        if let Some(bytes) = &bytes {
+            fs::write(&path.0, bytes).unwrap();
+        }
+        for opened in [LogFile::open(&path.0, CAPACITY), LogFile::adopt(&path.0, CAPACITY, 9)] {
+            match opened {
+                Err(Error::Ceiling(error)) => {
+                    assert_eq!(error.fault, CeilingFault::NoFile);
+                    assert!(error.to_string().contains("remove what is there"), "{error}");
+                }
+                other => panic!("{:?}", other.map(|log| log.log().state())),
+            }
+            assert_eq!(fs::read(&path.0).ok(), bytes);
+            assert!(!fs::symlink_metadata(&ceiling).unwrap().is_file());
+        }
+        fs::remove_file(&ceiling).or_else(|_| fs::remove_dir(&ceiling)).unwrap();
+        match bytes {
+            Some(_) => assert_eq!(opening_fault(&path.0), CeilingFault::Missing),
+            None => assert_eq!(LogFile::open(&path.0, CAPACITY).unwrap().take().unwrap(), 1),
+        }
+        path.remove();
+    }
 }
 
 #[test]
@@ -889,6 +923,17 @@ fn a_log_from_before_is_adopted() {
     fs::write(&path.0, [9; 1024]).unwrap();
     assert!(matches!(LogFile::adopt(&path.0, CAPACITY, 0), Err(Error::Refused(Refusal::BadMark { page: 0 }))));
     assert!(!ceiling_of(&path.0).exists());
+}
+
+/// A name that was mistyped adopts nothing, and makes nothing.
+#[test]
+fn what_is_not_there_is_not_adopted() {
+    let path = Scratch::new("not-there");
+    let error = io_error(LogFile::adopt(&path.0, CAPACITY, 5));
+    assert_eq!((error.kind(), error.to_string().as_str()), (io::ErrorKind::NotFound, "there is no log to adopt"));
+    assert!(!path.0.exists() && !ceiling_of(&path.0).exists());
+    fs::write(ceiling_of(&path.0), "damaged").unwrap();
+    assert_eq!(LogFile::adopt(&path.0, CAPACITY, 5).unwrap().take().unwrap(), 5);
 }
 
 /// By another name of its file a log has no ceiling, and gets none: with two of them ids would come twice.
