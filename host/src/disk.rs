@@ -5,7 +5,7 @@ use std::{
     fmt,
     fs::{self, File, OpenOptions},
     io::{self, Read, Seek, SeekFrom, Write},
-    os::unix::fs::MetadataExt,
+    os::unix::fs::{fchown, MetadataExt},
     path::{Path, PathBuf},
 };
 
@@ -125,6 +125,21 @@ impl Files {
             Err(error) if error.kind() != io::ErrorKind::NotFound => Err(error),
             _ => New::make(name),
         }
+    }
+
+    /// Lets those use the new file who may use the log, and no others, as far as a process can. The first ceiling is
+    /// made as the log is right after it.
+    fn share(&self, new: &File) -> io::Result<()> {
+        let Some(log) = &self.log else { return Ok(()) };
+        let (log, made) = (log.metadata()?, new.metadata()?);
+        if log.mode() != made.mode() {
+            new.set_permissions(log.permissions())?;
+        }
+        // Another owner than oneself only root can set, the group also its members.
+        if (log.uid(), log.gid()) != (made.uid(), made.gid()) {
+            let _ = fchown(new, Some(log.uid()), Some(log.gid())).or_else(|_| fchown(new, None, Some(log.gid())));
+        }
+        Ok(())
     }
 }
 
@@ -250,8 +265,10 @@ impl Disk for Files {
     fn write_new(&mut self, bytes: &[u8]) -> io::Result<()> {
         self.new = None; // one that failed goes first
         self.test_place()?; // before the name of the new file is touched: it may be another log's
-        let new = self.make_new()?;
-        self.new.insert(new).file.write_all(bytes)
+        self.new = Some(self.make_new()?);
+        let mut file = &self.new.as_ref().expect(WRITTEN_FIRST).file;
+        self.share(file)?;
+        file.write_all(bytes)
     }
 
     fn sync_new(&mut self) -> io::Result<()> {

@@ -496,6 +496,8 @@ fn a_new_ceiling_that_failed_goes_under_the_lock() {
     assert_eq!(asked, format!("{OPENED}{failed}remove /log.ceiling.new\nunlock /log\n"));
 }
 
+const NOBODY: u32 = 65_534;
+
 /// For a process that modes bind: if this is root's, one of another user's.
 #[test]
 fn a_folder_that_may_not_be_read() {
@@ -539,7 +541,6 @@ fn a_folder_that_may_not_be_written() {
 
 /// Runs a test again for a log in such a folder, to which it adds a page, in a process that modes bind.
 fn in_a_folder_of_mode(mode: u32, test: &str) {
-    const NOBODY: u32 = 65_534;
     let scratch = Scratch::new(test);
     let folder = scratch.0.join("folder");
     let log = folder.join("log");
@@ -565,6 +566,37 @@ fn in_a_folder_of_mode(mode: u32, test: &str) {
         }
         Err(error) => left_out(&format!("{test}: as another user than root: {error}")),
     }
+}
+
+/// Whoever may use the log may use its ceiling, and nobody else, whichever process stored it.
+#[test]
+fn the_ceiling_has_the_log_s_mode_and_owner() {
+    let path = Scratch::new("mode");
+    let access = |path: &Path| {
+        let found = fs::metadata(path).unwrap();
+        (found.mode(), found.uid(), found.gid())
+    };
+    let mut log = LogFile::open(&path.0, CAPACITY).unwrap();
+    log.set_step(1).unwrap();
+    assert_eq!(access(&ceiling_of(&path.0)), access(&path.0));
+    let mut owners = vec![(None, None)];
+    if fs::metadata("/proc/self").unwrap().uid() == 0 {
+        owners.extend([(Some(NOBODY), None), (Some(1), Some(NOBODY))]);
+    } else {
+        left_out("a log of another owner's, whose ceiling root stores");
+    }
+    for (uid, gid) in owners {
+        for mode in [0o600, 0o660, 0o664, 0o606] {
+            chown(&path.0, uid, gid).unwrap();
+            fs::set_permissions(&path.0, fs::Permissions::from_mode(mode)).unwrap();
+            log.take().unwrap();
+            assert_eq!(access(&ceiling_of(&path.0)), access(&path.0));
+        }
+    }
+    drop(log);
+    fs::remove_file(ceiling_of(&path.0)).unwrap();
+    LogFile::adopt(&path.0, CAPACITY, 99).unwrap();
+    assert_eq!(access(&ceiling_of(&path.0)), access(&path.0));
 }
 
 /// Nothing of what is no file is locked, synced or written.
