@@ -8,7 +8,10 @@
 //! new one, and never a part; and a file whose sync failed is not tried again.
 use std::{fmt, io, path::PathBuf};
 
-use crate::{disk::Disk, Error, State};
+use crate::{
+    disk::{about, Disk},
+    Error, State,
+};
 
 /// What is wrong with the file that keeps a log's ceiling; its message says what to do.
 #[derive(Clone, Debug, PartialEq, Eq)]
@@ -89,10 +92,8 @@ fn read(disk: &mut dyn Disk) -> io::Result<Result<u64, CeilingFault>> {
     Ok(bytes.and_then(|bytes| ceiling_in(&bytes).ok_or(CeilingFault::Damaged)))
 }
 
-/// The system's error, with what it was about.
 fn failed(what: &str, disk: &dyn Disk, error: io::Error) -> io::Error {
-    let file = disk.ceiling_path().display();
-    io::Error::new(error.kind(), format!("the ceiling file {file} could not be {what}: {error}"))
+    about(format!("the ceiling file {} could not be {what}", disk.ceiling_path().display()), error)
 }
 
 /// What is wrong with the ceiling, as the error of an opening.

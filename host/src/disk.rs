@@ -289,6 +289,29 @@ impl Disk for Files {
     }
 }
 
+/// The system's error with what it was about, and the error itself, with its code, as the source.
+pub(crate) fn about(what: String, error: io::Error) -> io::Error {
+    io::Error::new(error.kind(), About { what, error })
+}
+
+#[derive(Debug)]
+struct About {
+    what: String,
+    error: io::Error,
+}
+
+impl fmt::Display for About {
+    fn fmt(&self, f: &mut fmt::Formatter<'_>) -> fmt::Result {
+        write!(f, "{}: {}", self.what, self.error)
+    }
+}
+
+impl std::error::Error for About {
+    fn source(&self) -> Option<&(dyn std::error::Error + 'static)> {
+        Some(&self.error)
+    }
+}
+
 const WRITTEN_FIRST: &str = "the new file is written first";
 
 /// Syncs a log's folder, for the names. A process may be let search a folder and not read it, and then it cannot sync
@@ -297,9 +320,9 @@ const WRITTEN_FIRST: &str = "the new file is written first";
 fn sync_folder(opened: io::Result<File>, named: bool) -> io::Result<()> {
     match opened {
         Err(error) if error.kind() == io::ErrorKind::PermissionDenied && !named => Ok(()),
-        opened => opened.and_then(|folder| folder.sync_all()).map_err(|error| {
-            io::Error::new(error.kind(), format!("the folder that the log is in could not be synced: {error}"))
-        }),
+        opened => opened
+            .and_then(|folder| folder.sync_all())
+            .map_err(|error| about("the folder that the log is in could not be synced".into(), error)),
     }
 }
 

@@ -8,7 +8,7 @@ use crate::{
 };
 
 /// What can go wrong with a log in a file: the library refuses, the log's ceiling is not known, or a file does not do
-/// what was asked.
+/// what was asked. Where the system's error is told with what it was about, it is a source of the [`io::Error`].
 #[derive(Debug)]
 pub enum Error {
     Refused(Refusal),

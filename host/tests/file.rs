@@ -2,7 +2,9 @@
 //! a disk can do to it that no test can make a real one do is in src/crashes.rs and src/restarts.rs.
 use std::{
     collections::BTreeSet,
-    env, fs,
+    env,
+    error::Error as _,
+    fs,
     io::{self, Write},
     os::unix::{
         fs::{chown, MetadataExt, PermissionsExt},
@@ -164,6 +166,14 @@ fn io_error<T>(answer: Result<T, Error>) -> io::Error {
     match answer {
         Err(Error::Io(error)) => error,
         other => panic!("{:?}", other.map(|_| "well")),
+    }
+}
+
+/// The code that the system gave, of an error that may say more.
+fn system_code(error: &io::Error) -> Option<i32> {
+    match error.source().and_then(|source| source.downcast_ref()) {
+        Some(source) => system_code(source),
+        None => error.raw_os_error(),
     }
 }
 
@@ -453,10 +463,9 @@ fn an_id_whose_ceiling_is_not_stored_is_not_handed_out() {
         let before = log.log().state();
         env::set_var("RECORD_FAILS", env::var_os("TAKE_FAILS").unwrap());
         for _ in 0..2 {
-            match log.take() {
-                Err(Error::Io(error)) => assert!(error.to_string().contains("log.ceiling could not be stored: ")),
-                other => panic!("{other:?}"),
-            }
+            let error = io_error(log.take());
+            assert!(error.to_string().contains("log.ceiling could not be stored: "));
+            assert_eq!(system_code(&error), Some(5)); // EIO, as record.c says
             assert_eq!(log.log().state(), before);
         }
         env::remove_var("RECORD_FAILS");
