@@ -74,7 +74,7 @@ awirbesh_taken model_take(awirbesh_state state)
 awirbesh_raised model_raise(awirbesh_state state, uint64_t step)
 {
     awirbesh_raised r = {0, state};
-    if (step < 1 || step > LONGEST_STEP || step > UINT64_MAX - state.ceiling)
+    if (step < 1 || step > LONGEST_STEP || state.ceiling + step < state.ceiling)
         r.number = 31;
     else
         r.state.ceiling += step;
