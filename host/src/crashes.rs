@@ -1,9 +1,9 @@
 //! What a log in a file promises of a disk that fails or loses power, over a simulated one: every operation in turn,
 //! and of what no sync has covered the first bytes, however many, and any names. That used ids stay used: restarts.rs.
-//! A log's file is cut at every byte, and so is what a
-//! power failure leaves of a new one. Elsewhere the cuts are in a page's first fields, before its last byte, at its end
-//! and at each 97th byte; or, where the cut of a failed push fails too, at each half of a page. A disk that keeps later
-//! bytes and not the earlier has a test of its own, which says what then holds.
+//! A log's file is cut at every byte, and so is what a power failure leaves of a new one. Elsewhere the cuts are in a
+//! page's first fields, before its last byte, at its end and at each 97th byte; or, where the cut of a failed push
+//! fails too, at each half of a page. A disk that keeps later bytes and not the earlier has a test of its own, which
+//! says what then holds.
 use crate::{
     disk::Disk,
     simulated::{Chance, Fault, Simulated},
