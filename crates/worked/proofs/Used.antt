@@ -25,6 +25,7 @@ use Rattle.demands.specs.History.{World, world, Call, push, take-id, raise, fin
 use Rattle.demands.specs.History.{Answer, pushed, handed-out, raised-to, located, looked-up, scan-began, stepped, restored, lent, reopened, answer, step, run, Said, said, Begun}
 use Rattle.demands.specs.Used.{HandsOut, Pushes, Finds, read-by-lookup, Some, InTurn, HandedBefore, PushedOnce, StoredAbove, HandedOnce, UsedOnce}
 use Rattle.demands.proofs.Check.Passing.{checked-sound}
+use Rattle.demands.proofs.Recovery.Resuming.{empty-is-fresh}
 use Rattle.demands.proofs.History.Used.{last-answered-enough, used-once, dropped-never-found}
 use Rattle.worked.proofs.Witnessed.{word}
 
@@ -249,7 +250,14 @@ older-ceiling = raise 1 ∷ take-id ∷ recover 1 ∷ raise 1 ∷ take-id ∷ []
 pub older-hands-again : NeedsStored nothing older-ceiling
 unfolding tooLong checkEnd checkFrom checkOf takeOf badStep raiseOf walkBack recoverLog recoverOf answer step said
 older-hands-again = record {
-  begun = record { size = 0; stored = 1; excess = 0; dropped = 0; is = refl; sound = checked-sound [] 0 .0 refl .sound };
+  begun = record {
+    size = 0;
+    stored = 1;
+    excess = 0;
+    dropped = 0;
+    is = empty-is-fresh [] 0 1 (record { small = lit≤ tt; inside = lit≤ tt }) refl .1 (lit≤ tt);
+    sound = checked-sound [] 0 .0 refl .sound;
+  };
   handed = also (plain-handed tt) (also (plain-handed tt) (also (plain-handed tt) (also (plain-handed tt) (also (plain-handed tt) tt))));
   once = also (plain-once tt) (also (plain-once tt) (also (plain-once tt) (also (plain-once tt) (also (plain-once tt) tt))));
   twice = λ u. u .1 .1 .1 .1 .0 .new 1 (record { state = _; is = refl }) (inr (inr (inl (record { state = _; is = refl }))));

@@ -1,8 +1,8 @@
 -- What recovery gives where the whole pages are a sound log, and the state that a log is gone on with. Assumes nothing.
-use Prim.Native.Nat.{ℕ, _+_, _-_, _%_, max}
-use mathlib.Core.Path.{_≡_, refl, sym}
+use Prim.Native.Nat.{ℕ, _+_, _-_, _%_, _≤_, max}
+use mathlib.Core.Path.{_≡_, refl, sym, ap, _∙_}
 use mathlib.Core.Bool.{true}
-use mathlib.Core.Logic.{⊎-elim}
+use mathlib.Core.Logic.{_↔_, ⊎-elim}
 use mathlib.Core.List.{List}
 use lib.ListN.{length, take}
 use native.Mathlib.Omega.{arith}
@@ -11,10 +11,10 @@ use Rattle.page.specs.Size.{pageSize, pageCount}
 use Rattle.page.specs.Entry.{idAt}
 use Rattle.log.specs.Bounds.{Fits, tooLong}
 use Rattle.log.specs.State.{fresh, recoveredAt, resumedAbove}
-use Rattle.log.specs.Recovery.{Recovering, recovered, refused, excessOf, wholePages, recoverOf}
+use Rattle.log.specs.Recovery.{Recovering, recovered, refused, excessOf, wholePages, aboveStored, recoverLog, recoverOf}
 use Rattle.log.specs.declared.state.State.{State}
 use Rattle.log.proofs.Laws.Bounds.{fitting, not-too-long, length-log}
-use Rattle.log.proofs.Laws.Recovery.Steps.{all-pages, from-last, recover-bad, recover-cut}
+use Rattle.log.proofs.Laws.Recovery.Steps.{back-fresh, all-pages, from-last, recover-bad, recover-cut}
 use Rattle.demands.specs.Sound.{Sound, LastStored, nothing-stored, last-entry}
 use Rattle.demands.specs.Recovery.{RightRecovery, empty, used-up, goes-on}
 use Rattle.demands.proofs.Recovery.Cutting.{right-closed}
@@ -33,6 +33,27 @@ recover-right store n stored f s =
     let none : m - m ≡ 0 = omega arith in
     rw (← recover-cut store n stored (not-too-long store n f) (n - excessOf n) (sym size) refl, from-last log (excessOf n))
     (rw (all-pages log m refl (s .pages), none) at (right-closed log s m (omega arith) m (excessOf n) stored (λ p h l. s .within p h)))
+
+-- ---- THEOREM: of a log with no whole page, on any bytes, the state is fresh exactly with a stored ceiling of 0 or 1
+
+module _ (store : List ℕ) (n stored : ℕ) (f : Fits store n) (none : n - excessOf n ≡ 0) where
+  recovers-empty : recoverOf store n stored ≡ recovered (resumedAbove stored fresh) (excessOf n) 0
+  recovers-empty =
+      let size : length (wholePages store n) ≡ 0 = length-log store (n - excessOf n) (omega (arith, f .inside)) ∙ none in
+      let count : pageCount (wholePages store n) ≡ 0 = omega (arith, size) in
+      let walked : recoverLog (wholePages store n) (excessOf n) ≡ recovered fresh (excessOf n) 0 =
+      from-last (wholePages store n) (excessOf n) ∙ (rw count (back-fresh 0 (excessOf n) (wholePages store n) 0 refl count)) in
+      sym (recover-cut store n stored (not-too-long store n f) (n - excessOf n) (none ∙ sym size) refl) ∙ ap (aboveStored stored) walked
+
+  pub empty-is-fresh : (recoverOf store n stored ≡ recovered fresh (excessOf n) 0) ↔ (stored ≤ 1)
+  empty-is-fresh = (
+    λ e.
+        let same = sym recovers-empty ∙ e in
+        let st : resumedAbove stored fresh ≡ fresh = cc in
+        let next : max 1 stored ≡ 1 = ap (λ (x : State). x .next) st in
+        omega (arith, next),
+    λ l. let next : max 1 stored ≡ 1 = omega (arith, l) in recovers-empty ∙ rw next,
+  )
 
 -- a recovery that is not refused had a store and a length in bounds
 pub recovered-fits : (store : List ℕ) (n stored : ℕ) (st : State) (excess dropped : ℕ) → recoverOf store n stored ≡ recovered st excess dropped → Fits store n
