@@ -1,4 +1,6 @@
 // The page layer (docs/RULES.md 1): the page's numbers, marks, entries read, copied and written.
+#![tactic(auto)]
+
 mod copying;
 mod entry;
 mod marks;

@@ -1,4 +1,6 @@
 // The refusals (docs/RULES.md 3), each with what it names.
+#![tactic(auto)]
+
 ghost use Rattle.std.specs.Prelude.{◌≡◌};
 ghost use Rattle.refusal.specs.Refusal.{number_of, value_of};
 
