@@ -1,5 +1,5 @@
 -- A number in bytes, high byte first, over the number of bytes: its length, its bound, and that it reads back. Assumes nothing.
-use mathlib.Core.Path.{◌≡◌, refl, sym, ◌∙◌}
+use mathlib.Core.Path.{◌≡◌, refl, sym, ap, ◌∙◌}
 use mathlib.Core.List.{List, [], ◌∷◌, ◌++◌, append_assoc}
 use Prim.Native.Nat.{ℕ, zero, suc, ◌+◌, ◌*◌, ◌/◌, ◌%◌, ◌^◌, ◌<◌}
 use native.Mathlib.Nat.{one-le-pow, pow-suc}
@@ -33,5 +33,7 @@ unfolding number_at bytes_of
 number_back pre zero n post = omega arith
 number_back pre (suc k) n post =
     let high = bytes_of k (n / 256) in
+    let parted : bytes_of (suc k) n ++ post ≡ high ++ (n % 256 ∷ post) = append_assoc high (n % 256 ∷ []) post in
+    let first : number_at (pre ++ (bytes_of (suc k) n ++ post)) (length pre) k ≡ n / 256 % 256 ^ k = ap (λ (l : List ℕ). number_at (pre ++ l) (length pre) k) parted ∙ number_back pre k (n / 256) (n % 256 ∷ post) in
     let byte : get_or (pre ++ (high ++ (n % 256 ∷ post))) (length pre + k) 0 ≡ n % 256 = get_or-append-add pre (high ++ (n % 256 ∷ post)) k 0 ∙ get_or_at high (n % 256) post 0 k (length_bytes k (n / 256)) in
-    rw (append_assoc high (n % 256 ∷ []) post, number_back pre k (n / 256) (n % 256 ∷ post), byte, pow-suc 256 k) (sym (mod-mul n {m = 256 ^ k} {c = 256} (one-le-pow k 256 (lit< tt)) (lit< tt)))
+    rw (first, parted, byte, pow-suc 256 k) (sym (mod-mul n {m = 256 ^ k} {c = 256} (one-le-pow k 256 (lit< tt)) (lit< tt)))
