@@ -1,0 +1,10 @@
+-- `Page::pages_for` meets its contract: the rule in one division. Assumes nothing.
+use native.Mathlib.Omega.{arith}
+use Rattle.page.proofs.Counting.{pages_linear}
+use Rattle.page.proofs.Page.pages_for.Goals as goal
+
+pub returns-then-n-le-FIRST_PAYLOAD : goal.returns-then-n-le-FIRST_PAYLOAD
+returns-then-n-le-FIRST_PAYLOAD c = omega (arith, pages_linear c.args.n)
+
+pub returns : goal.returns
+returns c = omega (arith, pages_linear c.args.n)

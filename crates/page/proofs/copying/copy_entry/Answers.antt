@@ -1,0 +1,22 @@
+-- `copy_entry` meets its contract: the part from where the data begins is handed on. Assumes nothing.
+use mathlib.Core.Path.{◌∙◌, ap}
+use mathlib.Core.List.{List, ◌++◌}
+use Prim.Native.Nat.{ℕ, ◌+◌}
+use native.Mathlib.Omega.{arith}
+use lib.ListN.{drop}
+use Rattle.page.proofs.Counting.{pages_some}
+use Rattle.page.proofs.Placing.{data_from_lem}
+use Rattle.page.specs.Size.{id_size}
+use Rattle.page.proofs.copying.copy_entry.Goals as goal
+
+pub slice_bounds-copy_from-count : goal.slice_bounds-copy_from-count
+slice_bounds-copy_from-count c = omega (arith, pages_some (id_size + c.args.n))
+
+pub slice_bounds-copy_from-start : goal.slice_bounds-copy_from-start
+slice_bounds-copy_from-start c = omega (arith, pages_some (id_size + c.args.n))
+
+pub returns : goal.returns
+returns c =
+    let a = c.args in
+    c.copy_from.ensures
+    ∙ ap (λ (d : List ℕ). d ++ drop a.n a.out.now) (data_from_lem a.part.now a.n _ (omega (arith, pages_some (id_size + a.n))) (omega arith))
