@@ -4,7 +4,7 @@
 usage: python3 tools/respell.py [--check]     at the top of the repository, once, after the kit's port.py
 
 A name is the repository's own where a file of specs/, or a file of laws in proofs/, defines it; it begins with a small
-letter (types and facts keep their capitals). What a file imports from the library keeps its spelling there. In a
+letter (types and facts keep their capitals). The crate log, whose name is a library's of the kit, becomes catalog. What a file imports from the library keeps its spelling there. In a
 function's own proof file only names that it imports from the repository are respelled, for the others are made by Rattle.
 Functions of src/, exported names, strings, inputs and outputs are not touched. With --check nothing is written: names that
 would fall together are listed, and the exit status says whether there are any. The pages of docs/ and the header's and
@@ -125,6 +125,29 @@ def old_names(names):
     return found
 
 
+def rename_crate():
+    """The kit has a library named log: the crate is catalog, in paths, in crates.txt, and where the pages name it."""
+    if not os.path.isdir("crates/log"):
+        return
+    os.rename("crates/log", "crates/catalog")
+    sources = glob.glob("crates/**/*.antt", recursive=True) + glob.glob("crates/**/*.rt", recursive=True) + glob.glob("crates/*/must-fail/*.edit")
+    for path in sources:
+        text = re.sub(r"\bRattle\.log\.", "Rattle.catalog.", read(path))
+        if not path.endswith(".antt"):
+            text = re.sub(r"(?<![\w:.])log::", "catalog::", text)
+        with open(path, "w", encoding="utf-8") as file:
+            file.write(text)
+    with open("crates.txt", encoding="utf-8") as file:
+        lines = [line if line.startswith("#") else re.sub(r"\blog\b", "catalog", line) for line in file]
+    with open("crates.txt", "w", encoding="utf-8") as file:
+        file.writelines(lines)
+    for path in ["docs/PROMISES.md", "docs/PROVING.md", "docs/DECISIONS.md", "docs/DIFFERENCES.md", "docs/BENCHMARK.md", "docs/RULES.md", "README.md"]:
+        text = re.sub(r"(?<![\w/])log/(?=specs|proofs|src)", "catalog/", read(path)).replace("crates/log", "crates/catalog")
+        text = re.sub(r"(?m)^\| log \|", "| catalog |", text)
+        with open(path, "w", encoding="utf-8") as file:
+            file.write(text)
+
+
 def main():
     check = "--check" in sys.argv[1:]
     names = crates()
@@ -139,7 +162,8 @@ def main():
         text = read(path)
         imported, other = imports(text, names)
         mine = {old: new for old, new in change.items() if old not in other and (is_law(path) or old in imported)}
-        mine |= ALONE.get(path, {})
+        if "fromEnd" in text:
+            mine |= ALONE.get(path, {})
         fall_together(path, text, mine, shown)
         if not check:
             with open(path, "w", encoding="utf-8") as file:
@@ -157,6 +181,8 @@ def main():
         if not check:
             with open(path, "w", encoding="utf-8") as file:
                 file.write(re.sub(r"`[^`\n]*`", lambda q: TOKEN.sub(lambda m: pages.get(m.group(0), m.group(0)), q.group(0)), text))
+    if not check:
+        rename_crate()
     for line in shown:
         print(line)
     print(f"{len(change)} names respelled, {len(shown)} places where names fall together")

@@ -3,7 +3,7 @@ use Prim.Native.Nat.{ℕ}
 use mathlib.Core.Path.{◌≡◌}
 use mathlib.Core.Bool.{Bool}
 use borrow.Author.Tests.{eq-eqb, ne_eqb}
-use Rattle.log.specs.Lookup.{found}
+use Rattle.catalog.specs.Lookup.{found}
 use Rattle.scanning.specs.Step.{refused as unstepped}
 use Rattle.scanning.specs.declared.End.{End}
 use Rattle.scanning.specs.declared.End.TheVariants.{Excluded}

@@ -1,6 +1,6 @@
 -- The numbers that stand for the answers of Rules 6, "Recovery", and Rules 7, "Sound check".
-use Rattle.log.specs.Check.{Checking, sound, refused}
-use Rattle.log.specs.Recovery.{Recovering, recovered, refused as unrecovered}
+use Rattle.catalog.specs.Check.{Checking, sound, refused}
+use Rattle.catalog.specs.Recovery.{Recovering, recovered, refused as unrecovered}
 use Rattle.awirbesh.specs.State.{state_numbers}
 use Rattle.awirbesh.specs.declared.checking.CheckedNumbers.{CheckedNumbers}
 use Rattle.awirbesh.specs.declared.checking.RecoveredNumbers.{RecoveredNumbers}

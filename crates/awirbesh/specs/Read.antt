@@ -1,7 +1,7 @@
 -- The numbers that stand for a range, and for the answers of Rules 8, "Lookup", and Rules 9, "Scan".
 use Rattle.std.specs.Prelude.{ℕ, eqb}
 use Rattle.refusal.specs.Pick.{pick}
-use Rattle.log.specs.Lookup.{Looking, found, absent, refused}
+use Rattle.catalog.specs.Lookup.{Looking, found, absent, refused}
 use Rattle.scanning.specs.Scan.{Beginning, at, refused as unstarted}
 use Rattle.scanning.specs.Step.{Stepping, entry, end, refused as unstepped}
 use Rattle.scanning.specs.declared.End.{End}

@@ -1,8 +1,8 @@
 -- The numbers that stand for a state, and for the answers of Rules 5, "Take and raise".
 -- Here and in each module of these specs: number is the refusal's, 0 for none; value is what it names; after a refusal every other number is 0, or what a comment there says.
-use Rattle.log.specs.State.{Taking, taken, refused, state_of}
-use Rattle.log.specs.Raise.{Raising, raised, refused as unraised}
-use Rattle.log.specs.declared.state.State.{State}
+use Rattle.catalog.specs.State.{Taking, taken, refused, state_of}
+use Rattle.catalog.specs.Raise.{Raising, raised, refused as unraised}
+use Rattle.catalog.specs.declared.state.State.{State}
 use Rattle.awirbesh.specs.declared.state.StateNumbers.{StateNumbers}
 use Rattle.awirbesh.specs.declared.state.TakenNumbers.{TakenNumbers}
 use Rattle.awirbesh.specs.declared.state.RaisedNumbers.{RaisedNumbers}

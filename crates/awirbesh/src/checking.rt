@@ -1,12 +1,12 @@
 // A log as it is found: the sound check and recovery.
 ghost use Rattle.std.specs.Prelude.{◌≡◌};
-ghost use Rattle.log.specs.Check.{check_of, paper_checked};
-ghost use Rattle.log.specs.Recovery.{recover_of, paper_recovered};
+ghost use Rattle.catalog.specs.Check.{check_of, paper_checked};
+ghost use Rattle.catalog.specs.Recovery.{recover_of, paper_recovered};
 ghost use Rattle.awirbesh.specs.Check.{checked_numbers, recovered_numbers};
 
 use crate::state;
 use crate::state::StateNumbers;
-use log::{Checked, Recovered};
+use catalog::{Checked, Recovered};
 
 #[repr(C)]
 #[derive(Drop)]
@@ -74,12 +74,12 @@ fn recovered_numbers(recovered: Recovered) -> RecoveredNumbers
 pub extern "C" fn awirbesh_check(store: &[u8], length: u64) -> CheckedNumbers
     ensures { result ≡ checked_numbers (check_of store.now length) }
 {
-    checked_numbers(log::check(store, length))
+    checked_numbers(catalog::check(store, length))
 }
 
 #[unsafe(no_mangle)]
 pub extern "C" fn awirbesh_recover(store: &[u8], length: u64, stored: u64) -> RecoveredNumbers
     ensures { result ≡ recovered_numbers (recover_of store.now length stored) }
 {
-    recovered_numbers(log::recover(store, length, stored))
+    recovered_numbers(catalog::recover(store, length, stored))
 }

@@ -1,6 +1,6 @@
 // The lookup and the scan.
 ghost use Rattle.std.specs.Prelude.{◌≡◌};
-ghost use Rattle.log.specs.Lookup.{find_of, lookup_of, paper_look};
+ghost use Rattle.catalog.specs.Lookup.{find_of, lookup_of, paper_look};
 ghost use Rattle.scanning.specs.Scan.{scan_of, paper_started};
 ghost use Rattle.scanning.specs.Step.{step_of, paper_stepped};
 ghost use Rattle.awirbesh.specs.State.{state_from};
@@ -8,7 +8,7 @@ ghost use Rattle.awirbesh.specs.Read.{end_from, range_from, look_numbers, starte
 
 use crate::state;
 use crate::state::StateNumbers;
-use log::Look;
+use catalog::Look;
 use scanning::{End, Range, Started, Stepped};
 
 // One end of a range: kind 1 is included, 2 is excluded, any other is open.
@@ -160,7 +160,7 @@ fn stepped_numbers(given: u64, stepped: Stepped) -> SteppedNumbers
 pub extern "C" fn awirbesh_find(store: &[u8], state: StateNumbers, id: u64) -> LookNumbers
     ensures { result ≡ look_numbers (find_of store.now (state_from state) id) }
 {
-    look_numbers(log::find(store, state::state_from(state), id))
+    look_numbers(catalog::find(store, state::state_from(state), id))
 }
 
 #[unsafe(no_mangle)]
@@ -173,7 +173,7 @@ pub extern "C" fn awirbesh_lookup(
     ensures value { result ≡ look_numbers (lookup_of store.now (state_from state) id out.old).answer }
     ensures out_after { out.new ≡ (lookup_of store.now (state_from state) id out.old).out }
 {
-    look_numbers(log::lookup(store, state::state_from(state), id, out))
+    look_numbers(catalog::lookup(store, state::state_from(state), id, out))
 }
 
 #[unsafe(no_mangle)]

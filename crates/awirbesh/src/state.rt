@@ -1,10 +1,10 @@
 // The state in numbers, taking an id and raising the ceiling.
 ghost use Rattle.std.specs.Prelude.{◌≡◌};
-ghost use Rattle.log.specs.State.{fresh, take_of, paper_taken};
-ghost use Rattle.log.specs.Raise.{raise_of, paper_raised};
+ghost use Rattle.catalog.specs.State.{fresh, take_of, paper_taken};
+ghost use Rattle.catalog.specs.Raise.{raise_of, paper_raised};
 ghost use Rattle.awirbesh.specs.State.{state_from, state_numbers, taken_numbers, raised_numbers};
 
-use log::{Raised, State, Taken};
+use catalog::{Raised, State, Taken};
 
 #[repr(C)]
 #[derive(Drop)]

@@ -7,8 +7,8 @@ use Rattle.page.specs.Size.{page_count, page_at}
 use Rattle.page.specs.Mark.{mark_at}
 use Rattle.page.specs.Entry.{length_at, id_at, after_at}
 use Rattle.page.proofs.Reading.{mark_same, length_same, id_same}
-use Rattle.log.specs.Recovery.{first_pages}
-use Rattle.log.proofs.Laws.Recovery.Steps.{length_first, count_first, page_first}
+use Rattle.catalog.specs.Recovery.{first_pages}
+use Rattle.catalog.proofs.Laws.Recovery.Steps.{length_first, count_first, page_first}
 use Rattle.demands.specs.Sound.{Start, Sound}
 
 -- no entry that starts in the first m pages goes on after them

@@ -8,7 +8,7 @@ use lib.ListN.{take}
 use Rattle.refusal.proofs.Cases.{side, order}
 use Rattle.page.specs.Entry.{id_at}
 use Rattle.page.proofs.Growing.{id_kept}
-use Rattle.log.specs.declared.state.State.{State}
+use Rattle.catalog.specs.declared.state.State.{State}
 use Rattle.demands.specs.Sound.{Start, Sound, SoundStore, Last, LastStored, nothing_stored, last_entry}
 use Rattle.demands.specs.Push.{Ready}
 use Rattle.demands.proofs.Push.Appending.{start_kept}

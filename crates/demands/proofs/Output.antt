@@ -5,8 +5,8 @@ use mathlib.Core.Logic.{⊎_elim}
 use mathlib.Core.List.{List}
 use lib.ListN.{length}
 use Rattle.refusal.proofs.Cases.{side}
-use Rattle.log.specs.Output.{WithOutput, hand_over}
-use Rattle.log.proofs.Laws.Output.{hand_small, hand_copied}
+use Rattle.catalog.specs.Output.{WithOutput, hand_over}
+use Rattle.catalog.proofs.Laws.Output.{hand_small, hand_copied}
 
 -- if the answer that goes with the data is no refusal, one is given only where the output stays
 pub hand_refused : {A : Type 0} (refuse : ℕ → ℕ → A) (r : A) (log : List ℕ) (s n : ℕ) (out : List ℕ)

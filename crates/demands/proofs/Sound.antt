@@ -6,8 +6,8 @@ use mathlib.Core.List.{List}
 use borrow.Author.Tests.{le-ltb, eq-eqb}
 use lib.ListN.{length, take}
 use Rattle.page.specs.Size.{page_size}
-use Rattle.log.specs.Bounds.{bad_state, bad_cursor, Good}
-use Rattle.log.proofs.Laws.Bounds.{not_bad, length_log}
+use Rattle.catalog.specs.Bounds.{bad_state, bad_cursor, Good}
+use Rattle.catalog.proofs.Laws.Bounds.{not_bad, length_log}
 use Rattle.demands.specs.Sound.{SoundStore}
 
 module _ {store : List ℕ} {n : ℕ} (s : SoundStore store n) where

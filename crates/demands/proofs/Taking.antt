@@ -3,10 +3,10 @@ use Prim.Native.Nat.{ℕ, ◌+◌, ◌<◌}
 use mathlib.Core.Path.{refl, subst}
 use mathlib.Core.Logic.{⊎_elim}
 use Rattle.refusal.proofs.Cases.{side, same_or_not, which}
-use Rattle.log.specs.State.{state_of, top_id, Taking, taken, refused, take_of}
-use Rattle.log.specs.Raise.{Raising, raised, refused as unraised, bad_step, raise_of}
-use Rattle.log.specs.declared.state.State.{State}
-use Rattle.log.proofs.Laws.States.{take_refused_lem, take_at_ceiling, take_moves, raise_refused_lem, raise_adds}
+use Rattle.catalog.specs.State.{state_of, top_id, Taking, taken, refused, take_of}
+use Rattle.catalog.specs.Raise.{Raising, raised, refused as unraised, bad_step, raise_of}
+use Rattle.catalog.specs.declared.state.State.{State}
+use Rattle.catalog.proofs.Laws.States.{take_refused_lem, take_at_ceiling, take_moves, raise_refused_lem, raise_adds}
 
 module _ (st : State) where
   pub by_take : (P : Taking → Type 0) → P (refused 9 0) → P (refused 30 0)

@@ -6,16 +6,16 @@ use Rattle.page.specs.Size.{page_size}
 use Rattle.page.specs.Entry.{id_at}
 use Rattle.page.specs.Data.{data_at}
 use Rattle.page.specs.Write.{overwritten}
-use Rattle.log.specs.Bounds.{too_long}
-use Rattle.log.specs.Output.{WithOutput}
-use Rattle.log.specs.State.{state_of, top_id, Taking, taken, refused as untaken, take_of}
-use Rattle.log.specs.Raise.{Raising, raised, refused as unraised, raise_of}
+use Rattle.catalog.specs.Bounds.{too_long}
+use Rattle.catalog.specs.Output.{WithOutput}
+use Rattle.catalog.specs.State.{state_of, top_id, Taking, taken, refused as untaken, take_of}
+use Rattle.catalog.specs.Raise.{Raising, raised, refused as unraised, raise_of}
 use Rattle.pushing.specs.Push.{Done, push_of}
-use Rattle.log.specs.Recovery.{Recovering, recovered, refused as unrecovered, recover_of}
-use Rattle.log.specs.Lookup.{Looking, find_of, lookup_of}
+use Rattle.catalog.specs.Recovery.{Recovering, recovered, refused as unrecovered, recover_of}
+use Rattle.catalog.specs.Lookup.{Looking, find_of, lookup_of}
 use Rattle.scanning.specs.Scan.{Beginning, scan_of}
 use Rattle.scanning.specs.Step.{Stepping, step_of}
-use Rattle.log.specs.declared.state.State.{State}
+use Rattle.catalog.specs.declared.state.State.{State}
 use Rattle.scanning.specs.declared.Range.{Range}
 use Rattle.demands.specs.Sound.{Start, Sound, Stored, Last}
 use Rattle.demands.specs.Push.{Push}

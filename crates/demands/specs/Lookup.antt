@@ -3,9 +3,9 @@ use Rattle.std.specs.Prelude.{ℕ, ◌*◌, ◌≤◌, ◌<◌, ◌≡◌, List,
 use Rattle.page.specs.Size.{page_size, id_size, page_count}
 use Rattle.page.specs.Entry.{length_at, after_at}
 use Rattle.page.specs.Data.{copied}
-use Rattle.log.specs.Round.{stop, again}
-use Rattle.log.specs.Output.{WithOutput}
-use Rattle.log.specs.Lookup.{Looking, found, absent, refused, Window, round_from}
+use Rattle.catalog.specs.Round.{stop, again}
+use Rattle.catalog.specs.Output.{WithOutput}
+use Rattle.catalog.specs.Lookup.{Looking, found, absent, refused, Window, round_from}
 use Rattle.demands.specs.Sound.{Stored, Missing}
 
 -- where an id stands by an answer: found or absent, by position and data length; a refusal does not say

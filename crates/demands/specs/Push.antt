@@ -5,7 +5,7 @@ use Rattle.page.specs.Entry.{length_at, id_at}
 use Rattle.page.specs.Data.{data_at}
 use Rattle.page.specs.Write.{entry_pages}
 use Rattle.pushing.specs.Push.{entry_data, Point, bytes_for, wrote, Done, push_of}
-use Rattle.log.specs.declared.state.State.{State}
+use Rattle.catalog.specs.declared.state.State.{State}
 use Rattle.demands.specs.Sound.{Start, SoundStore}
 
 -- the pages of the first n entries of a batch

@@ -4,10 +4,10 @@ use Rattle.refusal.specs.Pick.{pick}
 use Rattle.page.specs.Size.{page_size, page_count}
 use Rattle.page.specs.Mark.{mark_at, by_mark}
 use Rattle.page.specs.Entry.{Starting, short, cut, whole, id_at, after_at, entry_at}
-use Rattle.log.specs.Bounds.{too_long}
-use Rattle.log.specs.State.{fresh, recovered_at, resumed_above, top_id}
-use Rattle.log.specs.Recovery.{Recovering, recovered, refused, at_whole, first_pages, excess_of, whole_pages, above_stored}
-use Rattle.log.specs.declared.state.State.{State}
+use Rattle.catalog.specs.Bounds.{too_long}
+use Rattle.catalog.specs.State.{fresh, recovered_at, resumed_above, top_id}
+use Rattle.catalog.specs.Recovery.{Recovering, recovered, refused, at_whole, first_pages, excess_of, whole_pages, above_stored}
+use Rattle.catalog.specs.declared.state.State.{State}
 use Rattle.demands.specs.Sound.{Start, Sound, Last, LastStored}
 use Rattle.demands.specs.Push.{Push, outcome, Counted, ends_at, log_with, last_of}
 

@@ -6,10 +6,10 @@ use Rattle.page.specs.Data.{data_at}
 use Rattle.page.specs.Write.{overwritten}
 use Rattle.demands.specs.Sound.{Start}
 use Rattle.scanning.specs.Range.{holds_of}
-use Rattle.log.specs.Output.{with_output}
+use Rattle.catalog.specs.Output.{with_output}
 use Rattle.scanning.specs.Step.{entry, end, step_of}
 use Rattle.scanning.specs.Scan.{Beginning, at}
-use Rattle.log.specs.declared.state.State.{State}
+use Rattle.catalog.specs.declared.state.State.{State}
 use Rattle.scanning.specs.declared.End.{End}
 use Rattle.scanning.specs.declared.End.TheVariants.{Open, Included, Excluded}
 use Rattle.scanning.specs.declared.Range.{Range}

@@ -3,7 +3,7 @@ use Rattle.std.specs.Prelude.{ℕ, ◌*◌, ◌%◌, ◌≤◌, ◌<◌, ◌≡�
 use Rattle.page.specs.Size.{page_size, id_size, page_count}
 use Rattle.page.specs.Mark.{mark_at}
 use Rattle.page.specs.Entry.{length_at, id_at, data_length_at, after_at}
-use Rattle.log.specs.Bounds.{Fits}
+use Rattle.catalog.specs.Bounds.{Fits}
 
 -- page p is a start
 pub record Start (log : List ℕ) (p : ℕ) : Type 0 where

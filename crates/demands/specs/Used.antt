@@ -1,11 +1,11 @@
 -- Rules 11, "What is promised", 11.11: which ids the calls of a history hand out, push and find, by what they answered. What was said before a call stands with the latest first.
 use Rattle.std.specs.Prelude.{ℕ, ◌≤◌, ◌<◌, ◌≡◌, ◌⊎◌, List, [], ◌∷◌, length, get_or, take}
-use Rattle.log.specs.Output.{with_output}
-use Rattle.log.specs.State.{taken}
-use Rattle.log.specs.Lookup.{found, refused}
+use Rattle.catalog.specs.Output.{with_output}
+use Rattle.catalog.specs.State.{taken}
+use Rattle.catalog.specs.Lookup.{found, refused}
 use Rattle.pushing.specs.Push.{Done, entry_data}
 use Rattle.scanning.specs.Step.{entry}
-use Rattle.log.specs.declared.state.State.{State}
+use Rattle.catalog.specs.declared.state.State.{State}
 use Rattle.scanning.specs.declared.Range.{Range}
 use Rattle.demands.specs.History.{Call, push, take_id, raise, find, lookup, scan, step_on, recover, lend, cut_log, Words}
 use Rattle.demands.specs.History.{Answer, pushed, handed_out, raised_to, located, looked_up, scan_began, stepped, restored, lent, reopened}

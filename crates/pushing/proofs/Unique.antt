@@ -4,7 +4,7 @@ use mathlib.Core.Path.{◌≡◌, refl, sym, ap, ◌∙◌}
 use mathlib.Core.List.{List}
 use native.Mathlib.Omega.{arith}
 use Rattle.refusal.proofs.Unique.{refusal_unique}
-use Rattle.log.specs.declared.state.State.{State}
+use Rattle.catalog.specs.declared.state.State.{State}
 use Rattle.pushing.specs.Push.{Pushing, paper_reason, paper_pushed, push_of}
 use Rattle.pushing.specs.declared.Reason.{Reason}
 use Rattle.pushing.specs.declared.Reason.TheVariants.{None, Refused as Unpushed}

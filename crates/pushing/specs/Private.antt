@@ -1,6 +1,6 @@
 -- What the contracts of private functions cite beside the rules' own definitions: the rules' answer for each case of a private enum.
 use Rattle.std.specs.Prelude.{ℕ, List}
-use Rattle.log.specs.Round.{Round, stop, again}
+use Rattle.catalog.specs.Round.{Round, stop, again}
 use Rattle.pushing.specs.Push.{paper_pushed, Point, point, Done}
 use Rattle.pushing.specs.declared.EntryTurn.{EntryTurn}
 use Rattle.pushing.specs.declared.EntryTurn.TheVariants.{Written, Ended}

@@ -4,10 +4,10 @@ use Rattle.refusal.specs.Pick.{pick}
 use Rattle.refusal.specs.Refusal.{number_of, value_of}
 use Rattle.page.specs.Size.{page_size, id_size, payload_end, data_end, pages_for_data}
 use Rattle.page.specs.Write.{overwritten, entry_pages}
-use Rattle.log.specs.Round.{Round, stop, again, follow}
-use Rattle.log.specs.Bounds.{bad_state}
-use Rattle.log.specs.State.{moved_to}
-use Rattle.log.specs.declared.state.State.{State}
+use Rattle.catalog.specs.Round.{Round, stop, again, follow}
+use Rattle.catalog.specs.Bounds.{bad_state}
+use Rattle.catalog.specs.State.{moved_to}
+use Rattle.catalog.specs.declared.state.State.{State}
 use Rattle.pushing.specs.declared.Reason.{Reason}
 use Rattle.pushing.specs.declared.Reason.TheVariants.{None, Refused}
 use Rattle.pushing.specs.declared.Pushed.{Pushed}

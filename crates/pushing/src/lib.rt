@@ -4,7 +4,7 @@ ghost use Rattle.refusal.specs.Refusal.{number_of, value_of};
 ghost use Rattle.pushing.specs.Push.{bad_batch, some_large, pushing, refused, paper_pushed, point, turn, entries_from, push_of};
 ghost use Rattle.pushing.specs.Private.{paper_entry_turn};
 
-use log::State;
+use catalog::State;
 use page::Page;
 use refusal::Refusal;
 
@@ -139,7 +139,7 @@ pub fn push(store: &mut [u8], state: State, ids: &[u64], ends: &[u64], bytes: &[
     ensures result_value { paper_pushed result ≡ (push_of store.old state ids.now ends.now bytes.now).answer }
     ensures store_after { store.new ≡ (push_of store.old state ids.now ends.now bytes.now).store }
 {
-    if log::is_bad_state(store, state.length) {
+    if catalog::is_bad_state(store, state.length) {
         return refused(Refusal::BadState, 0, state);
     }
     if is_bad_batch(ids, ends, bytes) {

@@ -1,7 +1,7 @@
 // Each kind of line: the library's answer is held to the Rust's.
 use crate::line::Line;
 use crate::sum;
-use log::{Look, Recovered, State, Taken};
+use catalog::{Look, Recovered, State, Taken};
 use page::Page;
 use pushing::Reason;
 use scanning::{End, Range, Started, Stepped};
@@ -176,7 +176,7 @@ pub fn idle(w: World, store: &mut [u8]) -> World {
 }
 
 pub fn lookup(w: World, l: Line, store: &[u8], out: &mut [u8]) -> World {
-    let look = log::lookup(store, state_of(w), l.a, out);
+    let look = catalog::lookup(store, state_of(w), l.a, out);
     match look {
         Look::Found { position, length } => {
             let place = l.b == 1 && position == l.c && length == l.d;
@@ -269,7 +269,7 @@ pub fn recover(w: World, l: Line, store: &[u8]) -> World {
     if 65536 < length {
         return judged(w, false);
     }
-    let recovered = log::recover(store, length + excess, 0);
+    let recovered = catalog::recover(store, length + excess, 0);
     match recovered {
         Recovered::At {
             state,

@@ -4,8 +4,8 @@ use mathlib.Core.Path.{◌≡◌, sym, ap, ◌∙◌}
 use mathlib.Core.List.{List}
 use native.Mathlib.Omega.{arith}
 use Rattle.refusal.proofs.Unique.{refusal_unique, by_paper}
-use Rattle.log.specs.declared.state.State.{State}
-use Rattle.log.specs.Output.{WithOutput, with_output}
+use Rattle.catalog.specs.declared.state.State.{State}
+use Rattle.catalog.specs.Output.{WithOutput, with_output}
 use Rattle.scanning.specs.Scan.{scan_of, paper_started}
 use Rattle.scanning.specs.Step.{Stepping, step_of, paper_stepped}
 use Rattle.scanning.specs.declared.Range.{Range}

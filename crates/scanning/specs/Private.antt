@@ -1,7 +1,7 @@
 -- What the contracts of private functions cite beside the rules' own definitions: the rules' answer for each case of a private enum.
 use Rattle.std.specs.Prelude.{ℕ}
 use Rattle.refusal.specs.Refusal.{number_of, value_of}
-use Rattle.log.specs.Round.{Round, stop, again}
+use Rattle.catalog.specs.Round.{Round, stop, again}
 use Rattle.scanning.specs.Step.{Reaching, reached, ended, faulty}
 use Rattle.scanning.specs.declared.Reached.{Reached}
 use Rattle.scanning.specs.declared.Reached.TheVariants.{Entry, End, Refused}

@@ -2,9 +2,9 @@
 use Rattle.std.specs.Prelude.{ℕ, List}
 use Rattle.refusal.specs.Pick.{pick}
 use Rattle.refusal.specs.Refusal.{number_of, value_of}
-use Rattle.log.specs.Bounds.{bad_state}
-use Rattle.log.specs.Lookup.{Looking, found, absent, refused as unfound, find_of}
-use Rattle.log.specs.declared.state.State.{State}
+use Rattle.catalog.specs.Bounds.{bad_state}
+use Rattle.catalog.specs.Lookup.{Looking, found, absent, refused as unfound, find_of}
+use Rattle.catalog.specs.declared.state.State.{State}
 use Rattle.scanning.specs.declared.End.{End}
 use Rattle.scanning.specs.declared.End.TheVariants.{Open, Included, Excluded}
 use Rattle.scanning.specs.declared.Range.{Range}

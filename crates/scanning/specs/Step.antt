@@ -5,11 +5,11 @@ use Rattle.refusal.specs.Refusal.{number_of, value_of}
 use Rattle.page.specs.Size.{page_size, page_count}
 use Rattle.page.specs.Mark.{mark_at, by_mark}
 use Rattle.page.specs.Entry.{Starting, short, cut, whole, entry_at}
-use Rattle.log.specs.Round.{Round, stop, again, follow}
-use Rattle.log.specs.Output.{WithOutput, with_output, hand_over}
-use Rattle.log.specs.Bounds.{bad_state, bad_cursor}
+use Rattle.catalog.specs.Round.{Round, stop, again, follow}
+use Rattle.catalog.specs.Output.{WithOutput, with_output, hand_over}
+use Rattle.catalog.specs.Bounds.{bad_state, bad_cursor}
 use Rattle.scanning.specs.Range.{holds_of}
-use Rattle.log.specs.declared.state.State.{State}
+use Rattle.catalog.specs.declared.state.State.{State}
 use Rattle.scanning.specs.declared.Range.{Range}
 use Rattle.scanning.specs.declared.Stepped.{Stepped}
 use Rattle.scanning.specs.declared.Stepped.TheVariants.{Entry, End, Refused}

@@ -2,14 +2,14 @@
 ghost use Rattle.std.specs.Prelude.{◌≡◌, ◌<◌};
 ghost use Rattle.page.specs.Size.{page_count};
 ghost use Rattle.page.specs.Entry.{entry_at};
-ghost use Rattle.log.specs.Lookup.{find_of};
+ghost use Rattle.catalog.specs.Lookup.{find_of};
 ghost use Rattle.scanning.specs.Range.{above_lower, below_upper, holds_of};
 ghost use Rattle.scanning.specs.Scan.{from_look, scan_of, paper_started};
-ghost use Rattle.log.specs.Output.{with_output};
+ghost use Rattle.catalog.specs.Output.{with_output};
 ghost use Rattle.scanning.specs.Step.{step_start, step_page, forward_from, advance_of, step_of, paper_stepped};
 ghost use Rattle.scanning.specs.Private.{paper_reached, paper_seen};
 
-use log::{Look, State};
+use catalog::{Look, State};
 use page::{Entry, Mark, Page};
 use refusal::Refusal;
 
@@ -75,7 +75,7 @@ pub enum Started {
 fn place(store: &[u8], state: State, id: u64) -> Started
     ensures { paper_started result ≡ from_look (find_of store.now state id) }
 {
-    let look = log::find(store, state, id);
+    let look = catalog::find(store, state, id);
     match look {
         Look::Found {
             position,
@@ -90,7 +90,7 @@ fn place(store: &[u8], state: State, id: u64) -> Started
 pub fn scan(store: &[u8], state: State, range: Range) -> Started
     ensures { paper_started result ≡ scan_of store.now state range }
 {
-    if log::is_bad_state(store, state.length) {
+    if catalog::is_bad_state(store, state.length) {
         return Started::Refused(Refusal::BadState);
     }
     let lower = range.lower;
@@ -223,10 +223,10 @@ pub fn step(store: &[u8], state: State, range: Range, cursor: u64, out: &mut [u8
     ensures { with_output (paper_stepped result) out.new ≡ step_of store.now state range cursor out.old }
 {
     let length = state.length;
-    if log::is_bad_state(store, length) {
+    if catalog::is_bad_state(store, length) {
         return Stepped::Refused(Refusal::BadState);
     }
-    if log::is_bad_cursor(length, cursor) {
+    if catalog::is_bad_cursor(length, cursor) {
         return Stepped::Refused(Refusal::BadState);
     }
     let n = length as usize;

@@ -5,14 +5,14 @@ use Rattle.page.specs.Bytes.{number_at, bytes_of}
 use Rattle.page.specs.Mark.{mark_at}
 use Rattle.page.specs.Entry.{length_at, id_at, entry_at}
 use Rattle.page.specs.Write.{filled, first_page, later_page, later_pages, entry_pages}
-use Rattle.log.specs.Bounds.{too_long, bad_state}
-use Rattle.log.specs.State.{fresh, state_of, Taking, taken, refused as untaken, take_of}
-use Rattle.log.specs.Raise.{Raising, raised, refused as unraised, bad_step, raise_of}
-use Rattle.log.specs.Guess.{least_from, least_shift, offset_of}
-use Rattle.log.specs.Lookup.{Looking, found, absent, refused, all_pages, guess_in, compared, saying_at, turned, walk, search, search_of, find_of}
-use Rattle.log.specs.Recovery.{Recovering, recovered, refused as unrecovered, at_whole, at_start, walk_back, recover_log, recover_of}
+use Rattle.catalog.specs.Bounds.{too_long, bad_state}
+use Rattle.catalog.specs.State.{fresh, state_of, Taking, taken, refused as untaken, take_of}
+use Rattle.catalog.specs.Raise.{Raising, raised, refused as unraised, bad_step, raise_of}
+use Rattle.catalog.specs.Guess.{least_from, least_shift, offset_of}
+use Rattle.catalog.specs.Lookup.{Looking, found, absent, refused, all_pages, guess_in, compared, saying_at, turned, walk, search, search_of, find_of}
+use Rattle.catalog.specs.Recovery.{Recovering, recovered, refused as unrecovered, at_whole, at_start, walk_back, recover_log, recover_of}
 use Rattle.pushing.specs.Push.{Why, none, refused as unpushed, Done, entry_data, some, bad_end, bad_batch, large_data, some_large, wrote, turn, entries_from, push_of}
-use Rattle.log.specs.declared.state.State.{State}
+use Rattle.catalog.specs.declared.state.State.{State}
 use Rattle.sequence.specs.Window.{only, shifted}
 use Rattle.sequence.specs.Sequence.{complete_of, rounds, note_of}
 use Rattle.sequence.specs.History.{begun, answered, run}

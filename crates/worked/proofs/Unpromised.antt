@@ -5,13 +5,13 @@ use Rattle.page.specs.Bytes.{number_at, bytes_of}
 use Rattle.page.specs.Mark.{mark_at}
 use Rattle.page.specs.Entry.{length_at, id_at, entry_at}
 use Rattle.page.specs.Write.{filled, first_page, later_page, later_pages, entry_pages}
-use Rattle.log.specs.Bounds.{too_long, bad_state}
-use Rattle.log.specs.State.{fresh, state_of, take_of}
-use Rattle.log.specs.Raise.{bad_step, raise_of}
-use Rattle.log.specs.Recovery.{recovered, at_whole, at_start, walk_back, recover_log, recover_of}
-use Rattle.log.specs.Check.{refused, later_marks, check_start, check_page, check_end, check_from, check_of}
-use Rattle.log.specs.Guess.{least_from, least_shift, offset_of}
-use Rattle.log.specs.Lookup.{absent, compared, saying_at, turned, walk, search, search_of, find_of}
+use Rattle.catalog.specs.Bounds.{too_long, bad_state}
+use Rattle.catalog.specs.State.{fresh, state_of, take_of}
+use Rattle.catalog.specs.Raise.{bad_step, raise_of}
+use Rattle.catalog.specs.Recovery.{recovered, at_whole, at_start, walk_back, recover_log, recover_of}
+use Rattle.catalog.specs.Check.{refused, later_marks, check_start, check_page, check_end, check_from, check_of}
+use Rattle.catalog.specs.Guess.{least_from, least_shift, offset_of}
+use Rattle.catalog.specs.Lookup.{absent, compared, saying_at, turned, walk, search, search_of, find_of}
 use Rattle.pushing.specs.Push.{entry_data, some, bad_end, bad_batch, large_data, some_large, wrote, turn, entries_from, push_of}
 use Rattle.demands.specs.Sound.{SoundStore}
 use Rattle.demands.specs.Push.{batch_pages, Push, pages_of}

@@ -6,14 +6,14 @@ use Rattle.page.specs.Mark.{mark_at}
 use Rattle.page.specs.Entry.{length_at, id_at, entry_at}
 use Rattle.page.specs.Data.{place_of, data_of, data_at}
 use Rattle.page.specs.Write.{filled, first_page, later_page, later_pages, entry_pages}
-use Rattle.log.specs.Bounds.{too_long, bad_state}
-use Rattle.log.specs.Output.{hand_over}
-use Rattle.log.specs.State.{fresh, state_of, taken, take_of}
-use Rattle.log.specs.Raise.{bad_step, raise_of}
-use Rattle.log.specs.Recovery.{at_whole, at_start, walk_back, recover_log, recover_of}
-use Rattle.log.specs.Check.{check_end, check_from, check_of}
-use Rattle.log.specs.Guess.{least_from, least_shift, offset_of}
-use Rattle.log.specs.Lookup.{found, absent, compared, saying_at, turned, walk, search, search_of, find_of, hand_found, lookup_of}
+use Rattle.catalog.specs.Bounds.{too_long, bad_state}
+use Rattle.catalog.specs.Output.{hand_over}
+use Rattle.catalog.specs.State.{fresh, state_of, taken, take_of}
+use Rattle.catalog.specs.Raise.{bad_step, raise_of}
+use Rattle.catalog.specs.Recovery.{at_whole, at_start, walk_back, recover_log, recover_of}
+use Rattle.catalog.specs.Check.{check_end, check_from, check_of}
+use Rattle.catalog.specs.Guess.{least_from, least_shift, offset_of}
+use Rattle.catalog.specs.Lookup.{found, absent, compared, saying_at, turned, walk, search, search_of, find_of, hand_found, lookup_of}
 use Rattle.pushing.specs.Push.{entry_data, some, bad_end, bad_batch, large_data, some_large, wrote, turn, entries_from, push_of}
 use Rattle.demands.specs.History.{World, world, Call, push, take_id, raise, find, lookup, scan, step_on, recover, lend, cut_log}
 use Rattle.demands.specs.History.{Answer, pushed, handed_out, raised_to, located, looked_up, scan_began, stepped, restored, lent, reopened, answer, step, run, Said, said, Begun}

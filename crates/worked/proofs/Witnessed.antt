@@ -29,24 +29,24 @@ use Rattle.page.specs.Mark.{mark_at}
 use Rattle.page.specs.Entry.{length_at, id_at, entry_at}
 use Rattle.page.specs.Data.{place_of, data_of, data_at}
 use Rattle.page.specs.Write.{filled, first_page, later_page, later_pages, entry_pages}
-use Rattle.log.specs.Round.{stop, again}
-use Rattle.log.specs.Bounds.{too_long, bad_state, Fits, Good}
-use Rattle.log.specs.State.{fresh, state_of, take_of}
-use Rattle.log.specs.Raise.{bad_step, raise_of}
+use Rattle.catalog.specs.Round.{stop, again}
+use Rattle.catalog.specs.Bounds.{too_long, bad_state, Fits, Good}
+use Rattle.catalog.specs.State.{fresh, state_of, take_of}
+use Rattle.catalog.specs.Raise.{bad_step, raise_of}
 use Rattle.demands.specs.Sound.{Start, SoundStore, Last, LastStored, last_entry}
 use Rattle.demands.specs.Push.{batch_pages, log_after, Holds, Ready, Push, data_in, outcome, pages_of, AlikeFrom}
 use Rattle.demands.specs.Recovery.{RightRecovery, RightCut, Torn, Apart, strict_at, strict_back, strict_of}
 use Rattle.demands.specs.Lookup.{present, missing, RightStanding, Room, RightLookup, AnyGuess, stops, narrows}
 use Rattle.demands.specs.Scan.{Enough, Scans}
-use Rattle.log.specs.Guess.{least_from, least_shift, offset_of}
-use Rattle.log.specs.Lookup.{found, round_from, window, all_pages, compared, saying_at, turned, walk, search, search_of, find_of, hand_found, lookup_of}
-use Rattle.log.specs.Check.{later_marks, check_start, check_page, check_end, check_from, check_of}
-use Rattle.log.specs.Recovery.{recovered, refused as unrecovered, whole_pages, at_whole, at_start, walk_back, recover_log, recover_of}
+use Rattle.catalog.specs.Guess.{least_from, least_shift, offset_of}
+use Rattle.catalog.specs.Lookup.{found, round_from, window, all_pages, compared, saying_at, turned, walk, search, search_of, find_of, hand_found, lookup_of}
+use Rattle.catalog.specs.Check.{later_marks, check_start, check_page, check_end, check_from, check_of}
+use Rattle.catalog.specs.Recovery.{recovered, refused as unrecovered, whole_pages, at_whole, at_start, walk_back, recover_log, recover_of}
 use Rattle.pushing.specs.Push.{none, refused, point, bytes_for, Done, done, entry_data, some, bad_end, bad_batch, large_data, some_large, wrote, turn, entries_from, push_of}
 use Rattle.scanning.specs.Range.{holds_of}
 use Rattle.scanning.specs.Scan.{scan_of}
 use Rattle.scanning.specs.Step.{step_start, step_page, forward, forward_from, step_of}
-use Rattle.log.specs.declared.state.State.{State}
+use Rattle.catalog.specs.declared.state.State.{State}
 use Rattle.scanning.specs.declared.Range.{Range}
 use Rattle.scanning.specs.declared.End.TheVariants.{Open}
 use Rattle.demands.specs.History.{World, world, log_of, Words, Call, push, take_id, raise, find, lookup, lend, cut_log}

@@ -2,7 +2,7 @@
 use crate::building::handed;
 use crate::parts::number;
 use crate::{say, script};
-use log::{Look, State};
+use catalog::{Look, State};
 
 pub fn run() {
     script::run(
@@ -148,7 +148,7 @@ pub fn answer(look: Look) {
 // Looks up one id and says what that gave.
 fn one(store: &[u8], state: State, id: u64) {
     let mut out = io::buffer();
-    let look = log::lookup(store, state, id, &mut out);
+    let look = catalog::lookup(store, state, id, &mut out);
     say::one(b"  #: ", id);
     answer(look);
     if let Look::Found {
@@ -190,6 +190,6 @@ pub fn within(store: &[u8], state: State, line: &[u8]) {
 
 fn into(store: &[u8], state: State, dots: &mut [u8]) {
     say::text(b"  ");
-    answer(log::lookup(store, state, 1, dots));
+    answer(catalog::lookup(store, state, 1, dots));
     say::dots(dots);
 }

@@ -7,7 +7,7 @@ use crate::pages::show;
 use crate::parts::{is_all, letter, number, part};
 use crate::tails::say_recovered;
 use crate::{building, say, script};
-use log::{Look, State};
+use catalog::{Look, State};
 use page::Page;
 use pushing::{Pushed, Reason};
 
@@ -252,14 +252,14 @@ fn hex(store: &[u8], p: usize) {
 // "query ID": where the id is, or would be.
 fn query(store: &[u8], state: State, id: u64) {
     say::one(b"  a lookup of #: ", id);
-    answer(log::find(store, state, id));
+    answer(catalog::find(store, state, id));
     say::text(b"\n");
 }
 
 // "yields": what recovery says then.
 fn yields(store: &[u8], state: State) {
     say::text(b"  recovery then: ");
-    say_recovered(log::recover(store, state.length, 0));
+    say_recovered(catalog::recover(store, state.length, 0));
 }
 
 // An answer's bytes are so many of the long data from a place on.
@@ -276,7 +276,7 @@ fn is_data(out: &[u8], length: u64, from: usize, n: usize) -> bool {
 // A lookup of the id hands over n bytes of the long data from a place on.
 fn reads_back(store: &[u8], state: State, id: u64, from: usize, n: usize) -> bool {
     let mut out = io::buffer();
-    let look = log::lookup(store, state, id, &mut out);
+    let look = catalog::lookup(store, state, id, &mut out);
     match look {
         Look::Found {
             position: _,
@@ -309,11 +309,11 @@ fn say_back(back: bool) {
 // The state once its next id is taken, or the same if none is left.
 fn taken(state: State) -> State {
     match state.take() {
-        log::Taken::Id {
+        catalog::Taken::Id {
             id: _,
             state: after,
         } => after,
-        log::Taken::Refused(_) => state,
+        catalog::Taken::Refused(_) => state,
     }
 }
 

@@ -1,7 +1,7 @@
 // Words and numbers on standard output.
 use crate::parts::part;
 use libc::STDOUT_FILENO;
-use log::State;
+use catalog::State;
 use refusal::Refusal;
 
 pub fn text(words: &[u8]) {

@@ -2,7 +2,7 @@
 use crate::building::handed;
 use crate::parts::{letter, number};
 use crate::{say, script};
-use log::State;
+use catalog::State;
 use scanning::{End, Range, Started, Stepped};
 
 // Ids 2, 4 on three pages, an idle page, 6 and 9: seven pages.

@@ -2,7 +2,7 @@
 // The cases are lines and not calls, since each call with words or an array costs the check of its function more.
 use crate::parts::{letter, line_end, number};
 use crate::{building, ids, lookups, pushes, say, scans, tails};
-use log::State;
+use catalog::State;
 
 pub fn run(script: &[u8]) {
     let mut store = io::large_buffer();

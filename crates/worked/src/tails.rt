@@ -1,7 +1,7 @@
 // The state, ids taken and ceilings raised, and the sound check and recovery of good and bad logs. Both are lent the store by `&`, so that no byte of it changes.
 use crate::parts::number;
 use crate::{say, script};
-use log::{Checked, Raised, Recovered, State, Taken};
+use catalog::{Checked, Raised, Recovered, State, Taken};
 use refusal::Refusal;
 
 // From "byte 0 1" on, ids 1, 2 and 3 on pages 0, 1 to 2, and 3.
@@ -213,7 +213,7 @@ pub fn raised(state: State, line: &[u8]) -> State {
 
 // "Open CEILING": recovers the log of the state's length with a stored ceiling, and hands on the state.
 pub fn opened(store: &[u8], state: State, line: &[u8]) -> State {
-    match log::recover(store, state.length, number(line, 1)) {
+    match catalog::recover(store, state.length, number(line, 1)) {
         Recovered::At {
             state: after,
             excess: _,
@@ -259,7 +259,7 @@ pub fn check(store: &[u8], line: &[u8]) {
 }
 
 fn check_both(store: &[u8], length: u64) {
-    say_checked(log::check(store, length));
+    say_checked(catalog::check(store, length));
     say::text(b"; recovery ");
-    say_recovered(log::recover(store, length, 0));
+    say_recovered(catalog::recover(store, length, 0));
 }

@@ -10,11 +10,11 @@ use Rattle.page.specs.Size.{page_size, id_size, page_count}
 use Rattle.page.specs.Mark.{mark_at}
 use Rattle.page.specs.Entry.{length_at, id_at, data_length_at, after_at, entry_at}
 use Rattle.page.proofs.Starting.{IsWhole, whole_at, after_start}
-use Rattle.log.specs.Round.{Round, again}
-use Rattle.log.specs.Bounds.{too_long}
-use Rattle.log.specs.Check.{Checking, sound, refused, Checkpoint, checkpoint, later_marks, check_page, check_end, check_from, check_log, check_of}
-use Rattle.log.proofs.Laws.Bounds.{fitting, not_too_long}
-use Rattle.log.proofs.Laws.Check.Steps.{later_done, later_on, start_later, past_start, check_page_start, check_page_idle, CheckPageSays, passes_idle, passes_entry, finds_fault, check_page_says, from_end, from_fault, from_on, end_excess, end_sound, check_bad, check_good}
+use Rattle.catalog.specs.Round.{Round, again}
+use Rattle.catalog.specs.Bounds.{too_long}
+use Rattle.catalog.specs.Check.{Checking, sound, refused, Checkpoint, checkpoint, later_marks, check_page, check_end, check_from, check_log, check_of}
+use Rattle.catalog.proofs.Laws.Bounds.{fitting, not_too_long}
+use Rattle.catalog.proofs.Laws.Check.Steps.{later_done, later_on, start_later, past_start, check_page_start, check_page_idle, CheckPageSays, passes_idle, passes_entry, finds_fault, check_page_says, from_end, from_fault, from_on, end_excess, end_sound, check_bad, check_good}
 use Rattle.demands.specs.Sound.{Start, Sound, SoundStore}
 
 never_sound : (number value : ℕ) → refused number value ≡ sound → ⊥

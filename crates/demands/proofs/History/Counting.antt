@@ -3,9 +3,9 @@ use Prim.Native.Nat.{ℕ, ◌+◌, ◌≤◌}
 use mathlib.Core.Path.{◌≡◌, refl}
 use mathlib.Core.List.{List, []}
 use native.Mathlib.Omega.{arith}
-use Rattle.log.specs.State.{taken, refused as untaken, take_of}
-use Rattle.log.specs.Recovery.{Recovering, recovered, refused, recover_of}
-use Rattle.log.specs.declared.state.State.{State}
+use Rattle.catalog.specs.State.{taken, refused as untaken, take_of}
+use Rattle.catalog.specs.Recovery.{Recovering, recovered, refused, recover_of}
+use Rattle.catalog.specs.declared.state.State.{State}
 use Rattle.demands.specs.History.{World, Call, push, take_id, raise, find, lookup, scan, step_on, recover, lend, cut_log, state_after_take, state_after_raise, state_after_recovery}
 use Rattle.demands.specs.History.{Answer, pushed, handed_out, raised_to, located, looked_up, scan_began, stepped, restored, lent, reopened, after_cut, after, answer, step}
 use Rattle.demands.specs.Used.{state_in, GivenAtLeast}

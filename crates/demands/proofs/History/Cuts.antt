@@ -10,12 +10,12 @@ use Rattle.refusal.proofs.Cases.{side, which}
 use Rattle.page.specs.Size.{page_size, page_count}
 use Rattle.page.specs.Entry.{after_at}
 use Rattle.page.proofs.Growing.{length_kept}
-use Rattle.log.specs.Bounds.{Fits, too_long}
-use Rattle.log.specs.State.{state_of, top_id}
-use Rattle.log.specs.Recovery.{Recovering, recovered, refused, first_pages, excess_of, recover_of}
-use Rattle.log.specs.declared.state.State.{State}
-use Rattle.log.proofs.Laws.Bounds.{fitting}
-use Rattle.log.proofs.Laws.Recovery.Steps.{length_first, recover_bad}
+use Rattle.catalog.specs.Bounds.{Fits, too_long}
+use Rattle.catalog.specs.State.{state_of, top_id}
+use Rattle.catalog.specs.Recovery.{Recovering, recovered, refused, first_pages, excess_of, recover_of}
+use Rattle.catalog.specs.declared.state.State.{State}
+use Rattle.catalog.proofs.Laws.Bounds.{fitting}
+use Rattle.catalog.proofs.Laws.Recovery.Steps.{length_first, recover_bad}
 use Rattle.demands.specs.Sound.{Start, Sound, LastStored, last_entry}
 use Rattle.demands.specs.Recovery.{RightRecovery, empty, used_up, goes_on, Left, RightCut}
 use Rattle.demands.specs.History.{World, world, log_of, cut_log, kept_of, answer, after_cut, step}

@@ -8,11 +8,11 @@ use native.Mathlib.Omega.{arith}
 use lib.ListN.{length, get_or, take}
 use Rattle.page.specs.Size.{page_size}
 use Rattle.page.specs.Entry.{data_length_at}
-use Rattle.log.specs.Bounds.{Fits, Good}
+use Rattle.catalog.specs.Bounds.{Fits, Good}
 use Rattle.pushing.specs.Push.{entry_data}
-use Rattle.log.specs.State.{top_id}
-use Rattle.log.specs.Recovery.{refused, recover_of}
-use Rattle.log.specs.Lookup.{find_of}
+use Rattle.catalog.specs.State.{top_id}
+use Rattle.catalog.specs.Recovery.{refused, recover_of}
+use Rattle.catalog.specs.Lookup.{find_of}
 use Rattle.demands.specs.Sound.{Sound, LastStored, nothing_stored, last_entry}
 use Rattle.demands.specs.Push.{outcome, Counted, ends_at, log_with, Holds}
 use Rattle.demands.specs.Recovery.{Torn}

@@ -8,9 +8,9 @@ use lib.Seq.{take_at}
 use Rattle.page.specs.Size.{page_size}
 use Rattle.page.specs.Data.{data_at, copied}
 use Rattle.page.proofs.Placing.{length_data}
-use Rattle.log.specs.Output.{WithOutput}
-use Rattle.log.specs.Lookup.{Looking, find_of, lookup_of}
-use Rattle.log.specs.declared.state.State.{State}
+use Rattle.catalog.specs.Output.{WithOutput}
+use Rattle.catalog.specs.Lookup.{Looking, find_of, lookup_of}
+use Rattle.catalog.specs.declared.state.State.{State}
 use Rattle.pushing.specs.Push.{Done, entry_data}
 use Rattle.scanning.specs.Step.{Stepping, step_of}
 use Rattle.scanning.specs.declared.Range.{Range}

@@ -12,9 +12,9 @@ use Rattle.page.specs.Data.{data_at}
 use Rattle.page.proofs.Growing.{length_kept, id_kept, data_kept}
 use Rattle.page.proofs.Placing.{length_data}
 use Rattle.page.proofs.Starting.{after_data}
-use Rattle.log.specs.Output.{WithOutput}
-use Rattle.log.specs.Lookup.{Looking, found, absent, refused, find_of, lookup_of}
-use Rattle.log.proofs.Laws.Lookup.Handing.{found_copied, absent_nothing}
+use Rattle.catalog.specs.Output.{WithOutput}
+use Rattle.catalog.specs.Lookup.{Looking, found, absent, refused, find_of, lookup_of}
+use Rattle.catalog.proofs.Laws.Lookup.Handing.{found_copied, absent_nothing}
 use Rattle.demands.specs.Sound.{Start, Sound, Stored, Missing}
 use Rattle.demands.specs.Lookup.{Standing, present, missing, unsaid, standing, RightStanding}
 use Rattle.demands.specs.History.{World, log_of, push, take_id, raise, find, lookup, scan, step_on, recover, lend, cut_log, answer, ExactlyStored, LooksUp, Answers}

@@ -8,13 +8,13 @@ use native.Mathlib.Omega.{arith}
 use lib.ListN.{length, take}
 use lib.Seq.{take_at}
 use Rattle.refusal.specs.Pick.{pick}
-use Rattle.log.specs.Bounds.{too_long}
-use Rattle.log.specs.State.{take_of}
-use Rattle.log.specs.Raise.{raise_of}
+use Rattle.catalog.specs.Bounds.{too_long}
+use Rattle.catalog.specs.State.{take_of}
+use Rattle.catalog.specs.Raise.{raise_of}
 use Rattle.pushing.specs.Push.{push_of}
-use Rattle.log.specs.Recovery.{recover_of, excess_of}
-use Rattle.log.specs.declared.state.State.{State}
-use Rattle.log.proofs.Laws.Bounds.{fitting}
+use Rattle.catalog.specs.Recovery.{recover_of, excess_of}
+use Rattle.catalog.specs.declared.state.State.{State}
+use Rattle.catalog.proofs.Laws.Bounds.{fitting}
 use Rattle.demands.specs.Sound.{Sound}
 use Rattle.demands.specs.Push.{batch_pages}
 use Rattle.demands.specs.Recovery.{RightRecovery}

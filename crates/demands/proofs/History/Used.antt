@@ -5,7 +5,7 @@ use mathlib.Core.Logic.{◌⊎◌, inl, inr, ⊎_elim}
 use mathlib.Core.List.{List, [], ◌∷◌}
 use native.Mathlib.Omega.{arith}
 use lib.ListN.{length}
-use Rattle.log.specs.declared.state.State.{State}
+use Rattle.catalog.specs.declared.state.State.{State}
 use Rattle.demands.specs.Push.{Holds}
 use Rattle.demands.specs.History.{World, log_of, Call, answer, step, run, Said, heard, said, Begun}
 use Rattle.demands.specs.Used.{HandsOut, Pushes, Finds, Some, InTurn, last_answered, HandedBefore, PushedOnce, StoredAbove, StoredLast, PushedBefore, HandedOnce, UsedOnce}

@@ -9,10 +9,10 @@ use Rattle.page.specs.Size.{page_count}
 use Rattle.page.specs.Mark.{mark_at}
 use Rattle.page.specs.Entry.{whole, id_at, data_length_at, after_at, entry_at}
 use Rattle.page.proofs.Starting.{whole_at}
-use Rattle.log.specs.Round.{Round, stop, again, follow}
-use Rattle.log.specs.Lookup.{Looking, Saying, saying_at, Window, window, turned, walk, round_from, guess_in, search, all_pages}
-use Rattle.log.proofs.Laws.Lookup.Saying.{compare_same, compare_below, compare_above, says_start, says_back}
-use Rattle.log.proofs.Laws.Lookup.Rounds.{Between, Smaller, round_smaller, walk_at, InWindow, guess_inside, search_empty, search_round}
+use Rattle.catalog.specs.Round.{Round, stop, again, follow}
+use Rattle.catalog.specs.Lookup.{Looking, Saying, saying_at, Window, window, turned, walk, round_from, guess_in, search, all_pages}
+use Rattle.catalog.proofs.Laws.Lookup.Saying.{compare_same, compare_below, compare_above, says_start, says_back}
+use Rattle.catalog.proofs.Laws.Lookup.Rounds.{Between, Smaller, round_smaller, walk_at, InWindow, guess_inside, search_empty, search_round}
 use Rattle.demands.specs.Sound.{Start, Sound}
 use Rattle.demands.specs.Lookup.{standing, RightStanding, AnyGuess, emptied, stops, narrows}
 

@@ -12,11 +12,11 @@ use Rattle.page.specs.Entry.{length_at, id_at, data_length_at}
 use Rattle.page.specs.Data.{data_at, copied}
 use Rattle.page.proofs.Placing.{length_data}
 use Rattle.page.proofs.Starting.{after_start}
-use Rattle.log.specs.Output.{WithOutput, with_output}
-use Rattle.log.specs.Lookup.{Looking, found, absent, refused, find_of, lookup_of}
-use Rattle.log.specs.declared.state.State.{State}
-use Rattle.log.proofs.Laws.Lookup.Positions.{found_whole}
-use Rattle.log.proofs.Laws.Lookup.Handing.{found_small, found_copied, absent_nothing, refused_nothing}
+use Rattle.catalog.specs.Output.{WithOutput, with_output}
+use Rattle.catalog.specs.Lookup.{Looking, found, absent, refused, find_of, lookup_of}
+use Rattle.catalog.specs.declared.state.State.{State}
+use Rattle.catalog.proofs.Laws.Lookup.Positions.{found_whole}
+use Rattle.catalog.proofs.Laws.Lookup.Handing.{found_small, found_copied, absent_nothing, refused_nothing}
 use Rattle.demands.specs.Push.{Holds}
 use Rattle.demands.proofs.Lookup.NeverTen.{find_never_ten}
 

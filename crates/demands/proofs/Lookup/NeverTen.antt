@@ -10,15 +10,15 @@ use Rattle.refusal.proofs.Cases.{order}
 use Rattle.page.specs.Mark.{mark_at}
 use Rattle.page.specs.Entry.{Starting, short, cut, whole, entry_at}
 use Rattle.page.proofs.Marking.{IsBad, mark_cases}
-use Rattle.log.specs.Bounds.{bad_state}
-use Rattle.log.specs.Lookup.{Looking, found, absent, refused, Saying, ends, below, above, back, compared, saying_at, find_of}
+use Rattle.catalog.specs.Bounds.{bad_state}
+use Rattle.catalog.specs.Lookup.{Looking, found, absent, refused, Saying, ends, below, above, back, compared, saying_at, find_of}
 use Rattle.scanning.specs.Scan.{Beginning, at, refused as unstarted, from_look, from_end, scan_of}
-use Rattle.log.specs.declared.state.State.{State}
+use Rattle.catalog.specs.declared.state.State.{State}
 use Rattle.scanning.specs.declared.End.{End}
 use Rattle.scanning.specs.declared.End.TheVariants.{Open, Included, Excluded}
 use Rattle.scanning.specs.declared.Range.{Range}
-use Rattle.log.proofs.Laws.Lookup.Saying.{compare_short, compare_cut, compare_same, compare_below, compare_above, says_start, says_back, says_bad}
-use Rattle.log.proofs.Laws.Lookup.Positions.{found_by}
+use Rattle.catalog.proofs.Laws.Lookup.Saying.{compare_short, compare_cut, compare_same, compare_below, compare_above, says_start, says_back, says_bad}
+use Rattle.catalog.proofs.Laws.Lookup.Positions.{found_by}
 use Rattle.scanning.proofs.Laws.Start.{scan_bad, scan_from}
 
 -- ---- the search

@@ -5,10 +5,10 @@ use mathlib.Core.List.{List}
 use native.Mathlib.Omega.{arith}
 use lib.ListN.{take}
 use Rattle.page.proofs.Starting.{after_start}
-use Rattle.log.specs.Lookup.{Looking, found, absent, refused, ends, saying_at, find_of}
-use Rattle.log.specs.declared.state.State.{State}
-use Rattle.log.proofs.Laws.Lookup.Rounds.{FoundAt, page_answers}
-use Rattle.log.proofs.Laws.Lookup.Positions.{found_by}
+use Rattle.catalog.specs.Lookup.{Looking, found, absent, refused, ends, saying_at, find_of}
+use Rattle.catalog.specs.declared.state.State.{State}
+use Rattle.catalog.proofs.Laws.Lookup.Rounds.{FoundAt, page_answers}
+use Rattle.catalog.proofs.Laws.Lookup.Positions.{found_by}
 use Rattle.demands.specs.Lookup.{WholeStored, Placed}
 
 whole_stored : (log : List ℕ) (id position len : ℕ) → FoundAt log id position len → WholeStored log id position len

@@ -5,8 +5,8 @@ use mathlib.Core.List.{List}
 use native.Mathlib.Omega.{arith}
 use lib.ListN.{take}
 use Rattle.page.specs.Size.{page_size}
-use Rattle.log.specs.Lookup.{Looking, found, absent, refused, find_of, hand_found, lookup_of}
-use Rattle.log.specs.declared.state.State.{State}
+use Rattle.catalog.specs.Lookup.{Looking, found, absent, refused, find_of, hand_found, lookup_of}
+use Rattle.catalog.specs.declared.state.State.{State}
 use Rattle.demands.proofs.Output.{hand_refused}
 
 found_keeps : (log out : List ℕ) (r : Looking) (number value : ℕ) → (hand_found log out r).answer ≡ refused number value → (hand_found log out r).out ≡ out

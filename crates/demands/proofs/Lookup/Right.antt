@@ -8,10 +8,10 @@ use lib.ListN.{take}
 use Rattle.refusal.proofs.Cases.{side, order}
 use Rattle.page.specs.Size.{page_size, page_count}
 use Rattle.page.specs.Entry.{id_at, data_length_at}
-use Rattle.log.specs.Lookup.{Looking, found, absent, refused, all_pages, find_of, lookup_of}
-use Rattle.log.specs.declared.state.State.{State}
-use Rattle.log.proofs.Laws.Lookup.Tests.{find_in, search_all}
-use Rattle.log.proofs.Laws.Lookup.Handing.{found_copied, absent_nothing}
+use Rattle.catalog.specs.Lookup.{Looking, found, absent, refused, all_pages, find_of, lookup_of}
+use Rattle.catalog.specs.declared.state.State.{State}
+use Rattle.catalog.proofs.Laws.Lookup.Tests.{find_in, search_all}
+use Rattle.catalog.proofs.Laws.Lookup.Handing.{found_copied, absent_nothing}
 use Rattle.demands.specs.Sound.{Start, Sound, SoundStore, Stored, Missing}
 use Rattle.demands.specs.Lookup.{Standing, present, missing, unsaid, standing, RightStanding, Room, RightLookup}
 use Rattle.demands.proofs.Sound.{sound_not_bad}

@@ -10,7 +10,7 @@ use Rattle.page.specs.Write.{entry_pages}
 use Rattle.page.proofs.Joining.{length_entry}
 use Rattle.page.proofs.Written.{filling_zeros}
 use Rattle.pushing.specs.Push.{bytes_for, Done, push_of}
-use Rattle.log.specs.declared.state.State.{State}
+use Rattle.catalog.specs.declared.state.State.{State}
 use Rattle.demands.specs.Push.{batch_pages, Push, id_in, data_in, outcome, Counted, begins_at, pages_of, AlikeFrom}
 use Rattle.demands.proofs.Push.Ways.{by_batch}
 use Rattle.demands.proofs.Push.Batch.{push_grows}

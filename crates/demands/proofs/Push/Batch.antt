@@ -12,7 +12,7 @@ use Rattle.page.specs.Entry.{id_at}
 use Rattle.page.specs.Write.{entry_pages}
 use Rattle.page.proofs.Joining.{length_entry}
 use Rattle.pushing.specs.Push.{Why, none, refused, entry_data, Point, point, log_at, bytes_for, wrote, Done, done, entries_from, push_of}
-use Rattle.log.specs.declared.state.State.{State}
+use Rattle.catalog.specs.declared.state.State.{State}
 use Rattle.demands.proofs.Push.Ways.{by_batch, by_turn}
 use Rattle.demands.specs.Sound.{Start, SoundStore, LastStored, last_entry}
 use Rattle.demands.specs.Push.{batch_pages, log_after, Grown, after_entries, last_of, Holds, Ready, RightPush}

@@ -4,8 +4,8 @@ use mathlib.Core.Path.{◌≡◌, refl, sym}
 use mathlib.Core.List.{List}
 use lib.ListN.{length}
 use native.Mathlib.Omega.{arith}
-use Rattle.log.specs.State.{state_of, top_id, refused, take_of}
-use Rattle.log.proofs.Laws.States.{take_refused_lem}
+use Rattle.catalog.specs.State.{state_of, top_id, refused, take_of}
+use Rattle.catalog.proofs.Laws.States.{take_refused_lem}
 use Rattle.pushing.specs.Push.{Point, point, Done, entries_from, push_of}
 use Rattle.demands.specs.History.{Words}
 use Rattle.demands.proofs.Push.Ways.{by_batch, by_turn}

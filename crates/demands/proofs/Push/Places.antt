@@ -13,7 +13,7 @@ use Rattle.page.specs.Write.{entry_pages}
 use Rattle.page.proofs.Counting.{pages_some}
 use Rattle.page.proofs.Joining.{length_entry}
 use Rattle.page.proofs.Growing.{mark_kept, id_kept, count_added, mark_added, id_added}
-use Rattle.log.specs.Recovery.{first_pages}
+use Rattle.catalog.specs.Recovery.{first_pages}
 use Rattle.pushing.specs.Push.{entry_data}
 use Rattle.demands.proofs.Sound.{sound_length}
 use Rattle.demands.specs.Sound.{Start, Sound, SoundStore}

@@ -10,10 +10,10 @@ use borrow.Author.Tests.{le-ltb}
 use lib.ListN.{length, get_or}
 use lib.Seq.{take-length}
 use Rattle.page.specs.Size.{data_end}
-use Rattle.log.specs.Bounds.{Good}
-use Rattle.log.specs.Round.{Round, follow}
-use Rattle.log.specs.declared.state.State.{State}
-use Rattle.log.proofs.Laws.Bounds.{not_bad}
+use Rattle.catalog.specs.Bounds.{Good}
+use Rattle.catalog.specs.Round.{Round, follow}
+use Rattle.catalog.specs.declared.state.State.{State}
+use Rattle.catalog.proofs.Laws.Bounds.{not_bad}
 use Rattle.pushing.specs.Push.{none, refused, entry_data, some, bad_end, bad_batch, large_data, some_large, Point, point, bytes_for, wrote, Done, done, turn, entries_from, push_of}
 use Rattle.pushing.proofs.Laws.Tests.{turn_large, turn_write, entries_in_turn}
 use Rattle.demands.specs.Push.{Push, id_in, outcome}

@@ -7,10 +7,10 @@ use mathlib.Core.List.{List}
 use lib.ListN.{length, get_or}
 use Rattle.refusal.proofs.Cases.{which, either}
 use Rattle.page.specs.Size.{data_end}
-use Rattle.log.specs.Round.{Round, follow}
-use Rattle.log.specs.Bounds.{bad_state}
-use Rattle.log.specs.declared.state.State.{State}
-use Rattle.log.proofs.Laws.Bounds.{good_state}
+use Rattle.catalog.specs.Round.{Round, follow}
+use Rattle.catalog.specs.Bounds.{bad_state}
+use Rattle.catalog.specs.declared.state.State.{State}
+use Rattle.catalog.proofs.Laws.Bounds.{good_state}
 use Rattle.pushing.specs.Push.{refused, bad_batch, some_large, Point, point, bytes_for, wrote, Done, done, entry_data, entries_from, push_of}
 use Rattle.pushing.proofs.Laws.Tests.{EntrySays, out_of_order, too_large, full_store, pages_fit, entry_says}
 

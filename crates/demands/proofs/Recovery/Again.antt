@@ -12,12 +12,12 @@ use Rattle.page.specs.Mark.{mark_at}
 use Rattle.page.specs.Entry.{Starting, short, cut, whole, after_at, entry_at}
 use Rattle.page.proofs.Marking.{mark_cases}
 use Rattle.page.proofs.Starting.{is_whole}
-use Rattle.log.specs.Bounds.{Fits, Good}
-use Rattle.log.specs.State.{fresh, recovered_at, resumed_above, top_id}
-use Rattle.log.specs.Recovery.{Recovering, recovered, refused, at_whole, first_pages, walk_back, excess_of, whole_pages, above_stored, recover_log, recover_of}
-use Rattle.log.specs.declared.state.State.{State}
-use Rattle.log.proofs.Laws.Bounds.{not_too_long, length_log}
-use Rattle.log.proofs.Laws.Recovery.Steps.{whole_used, whole_goes_on, back_later, back_bad, back_short, back_cut, back_whole, back_fresh, back_none, length_first, count_first, first_first, all_pages_lem, from_last, recover_cut}
+use Rattle.catalog.specs.Bounds.{Fits, Good}
+use Rattle.catalog.specs.State.{fresh, recovered_at, resumed_above, top_id}
+use Rattle.catalog.specs.Recovery.{Recovering, recovered, refused, at_whole, first_pages, walk_back, excess_of, whole_pages, above_stored, recover_log, recover_of}
+use Rattle.catalog.specs.declared.state.State.{State}
+use Rattle.catalog.proofs.Laws.Bounds.{not_too_long, length_log}
+use Rattle.catalog.proofs.Laws.Recovery.Steps.{whole_used, whole_goes_on, back_later, back_bad, back_short, back_cut, back_whole, back_fresh, back_none, length_first, count_first, first_first, all_pages_lem, from_last, recover_cut}
 use Rattle.demands.specs.Recovery.{Apart, EndedAt}
 use Rattle.demands.proofs.Front.{mark_front, length_front, id_front}
 use Rattle.demands.proofs.Recovery.Resuming.{recovered_fits}

@@ -11,11 +11,11 @@ use Rattle.page.specs.Size.{page_size, page_count}
 use Rattle.page.specs.Mark.{mark_at}
 use Rattle.page.specs.Entry.{cut, whole, id_at, data_length_at, after_at, entry_at}
 use Rattle.page.proofs.Starting.{whole_at, cut_at, after_start}
-use Rattle.log.specs.Bounds.{Fits}
-use Rattle.log.specs.State.{top_id}
-use Rattle.log.specs.Recovery.{Recovering, at_whole, first_pages, walk_back, excess_of, above_stored, recover_log, recover_of}
-use Rattle.log.proofs.Laws.Bounds.{not_too_long}
-use Rattle.log.proofs.Laws.Recovery.Steps.{whole_used, whole_goes_on, back_later, back_cut, back_whole, back_fresh, length_first, count_first, first_first, from_last, recover_cut}
+use Rattle.catalog.specs.Bounds.{Fits}
+use Rattle.catalog.specs.State.{top_id}
+use Rattle.catalog.specs.Recovery.{Recovering, at_whole, first_pages, walk_back, excess_of, above_stored, recover_log, recover_of}
+use Rattle.catalog.proofs.Laws.Bounds.{not_too_long}
+use Rattle.catalog.proofs.Laws.Recovery.Steps.{whole_used, whole_goes_on, back_later, back_cut, back_whole, back_fresh, length_first, count_first, first_first, from_last, recover_cut}
 use Rattle.demands.specs.Sound.{Start, Sound, Last}
 use Rattle.demands.proofs.Front.{mark_front, length_front, start_front, front_start, Closed, sound_front}
 use Rattle.demands.specs.Recovery.{RightRecovery, empty, used_up, goes_on, Left, RightCut}

@@ -13,10 +13,10 @@ use Rattle.page.proofs.Marking.{mark_cases}
 use Rattle.page.proofs.Paging.{page_from}
 use Rattle.page.proofs.Reading.{mark_same, entry_same}
 use Rattle.page.proofs.Starting.{is_cut}
-use Rattle.log.specs.Bounds.{Fits}
-use Rattle.log.specs.Recovery.{at_whole, first_pages, walk_back, excess_of, whole_pages, above_stored, recover_of}
-use Rattle.log.proofs.Laws.Bounds.{not_too_long, length_log}
-use Rattle.log.proofs.Laws.Recovery.Steps.{back_later, back_bad, back_short, back_cut, back_whole, length_first, count_first, first_first, page_first, all_pages_lem, from_last, recover_cut}
+use Rattle.catalog.specs.Bounds.{Fits}
+use Rattle.catalog.specs.Recovery.{at_whole, first_pages, walk_back, excess_of, whole_pages, above_stored, recover_of}
+use Rattle.catalog.proofs.Laws.Bounds.{not_too_long, length_log}
+use Rattle.catalog.proofs.Laws.Recovery.Steps.{back_later, back_bad, back_short, back_cut, back_whole, length_first, count_first, first_first, page_first, all_pages_lem, from_last, recover_cut}
 use Rattle.demands.specs.Sound.{Start, Sound}
 use Rattle.demands.specs.Recovery.{Apart}
 use Rattle.demands.proofs.Front.{mark_front, length_front}

@@ -10,11 +10,11 @@ use Rattle.page.specs.Size.{page_count}
 use Rattle.page.specs.Mark.{mark_at}
 use Rattle.page.specs.Entry.{Starting, short, cut, whole, entry_at}
 use Rattle.page.proofs.Marking.{mark_cases}
-use Rattle.log.specs.Bounds.{too_long}
-use Rattle.log.specs.State.{top_id}
-use Rattle.log.specs.Recovery.{Recovering, recovered, refused, at_whole, first_pages, walk_back, excess_of, whole_pages, above_stored, recover_of}
-use Rattle.log.proofs.Laws.Bounds.{fitting, length_log}
-use Rattle.log.proofs.Laws.Recovery.Steps.{whole_used, whole_goes_on, back_later, back_bad, back_short, back_cut, back_whole, back_fresh, back_none, from_last, recover_bad, recover_cut}
+use Rattle.catalog.specs.Bounds.{too_long}
+use Rattle.catalog.specs.State.{top_id}
+use Rattle.catalog.specs.Recovery.{Recovering, recovered, refused, at_whole, first_pages, walk_back, excess_of, whole_pages, above_stored, recover_of}
+use Rattle.catalog.proofs.Laws.Bounds.{fitting, length_log}
+use Rattle.catalog.proofs.Laws.Recovery.Steps.{whole_used, whole_goes_on, back_later, back_bad, back_short, back_cut, back_whole, back_fresh, back_none, from_last, recover_bad, recover_cut}
 
 abbrev NotSeven : Recovering → Type 0
 NotSeven (recovered st excess dropped) = Unit {0}

@@ -9,12 +9,12 @@ use native.Mathlib.Omega.{arith}
 use Rattle.refusal.proofs.Cases.{which}
 use Rattle.page.specs.Size.{page_size, page_count}
 use Rattle.page.specs.Entry.{id_at}
-use Rattle.log.specs.Bounds.{Fits, too_long}
-use Rattle.log.specs.State.{fresh, recovered_at, resumed_above}
-use Rattle.log.specs.Recovery.{Recovering, recovered, refused, excess_of, whole_pages, above_stored, recover_log, recover_of}
-use Rattle.log.specs.declared.state.State.{State}
-use Rattle.log.proofs.Laws.Bounds.{fitting, not_too_long, length_log}
-use Rattle.log.proofs.Laws.Recovery.Steps.{back_fresh, all_pages_lem, from_last, recover_bad, recover_cut}
+use Rattle.catalog.specs.Bounds.{Fits, too_long}
+use Rattle.catalog.specs.State.{fresh, recovered_at, resumed_above}
+use Rattle.catalog.specs.Recovery.{Recovering, recovered, refused, excess_of, whole_pages, above_stored, recover_log, recover_of}
+use Rattle.catalog.specs.declared.state.State.{State}
+use Rattle.catalog.proofs.Laws.Bounds.{fitting, not_too_long, length_log}
+use Rattle.catalog.proofs.Laws.Recovery.Steps.{back_fresh, all_pages_lem, from_last, recover_bad, recover_cut}
 use Rattle.demands.specs.Sound.{Sound, LastStored, nothing_stored, last_entry}
 use Rattle.demands.specs.Recovery.{RightRecovery, empty, used_up, goes_on}
 use Rattle.demands.proofs.Recovery.Cutting.{right_closed}

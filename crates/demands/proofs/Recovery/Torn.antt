@@ -11,10 +11,10 @@ use Rattle.page.specs.Size.{page_size, page_count}
 use Rattle.page.specs.Entry.{id_at}
 use Rattle.page.proofs.Growing.{id_kept}
 use Rattle.page.proofs.Starting.{after_start}
-use Rattle.log.specs.Bounds.{Fits}
-use Rattle.log.specs.State.{fresh, recovered_at, resumed_above}
-use Rattle.log.specs.Recovery.{Recovering, recovered, at_whole, first_pages, excess_of, above_stored, recover_of}
-use Rattle.log.proofs.Laws.Recovery.Steps.{whole_used, whole_goes_on}
+use Rattle.catalog.specs.Bounds.{Fits}
+use Rattle.catalog.specs.State.{fresh, recovered_at, resumed_above}
+use Rattle.catalog.specs.Recovery.{Recovering, recovered, at_whole, first_pages, excess_of, above_stored, recover_of}
+use Rattle.catalog.proofs.Laws.Recovery.Steps.{whole_used, whole_goes_on}
 use Rattle.demands.specs.Sound.{Start, Sound, SoundStore, LastStored, nothing_stored, last_entry}
 use Rattle.demands.specs.Push.{batch_pages, log_after, Push, outcome, Counted, begins_at, ends_at, log_with, last_of, Ready}
 use Rattle.demands.specs.Recovery.{RightRecovery, empty, used_up, goes_on, RightCut, Torn}

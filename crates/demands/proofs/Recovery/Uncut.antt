@@ -13,10 +13,10 @@ use Rattle.page.specs.Size.{page_count}
 use Rattle.page.specs.Mark.{mark_at}
 use Rattle.page.specs.Entry.{Starting, short, cut, whole, entry_at}
 use Rattle.page.proofs.Marking.{mark_cases, by_start, by_later, by_bad}
-use Rattle.log.specs.Bounds.{too_long}
-use Rattle.log.specs.State.{fresh}
-use Rattle.log.specs.Recovery.{Recovering, recovered, refused, at_whole, walk_back, excess_of, whole_pages, above_stored, recover_log, recover_of}
-use Rattle.log.proofs.Laws.Recovery.Steps.{back_later, back_bad, back_short, back_whole}
+use Rattle.catalog.specs.Bounds.{too_long}
+use Rattle.catalog.specs.State.{fresh}
+use Rattle.catalog.specs.Recovery.{Recovering, recovered, refused, at_whole, walk_back, excess_of, whole_pages, above_stored, recover_log, recover_of}
+use Rattle.catalog.proofs.Laws.Recovery.Steps.{back_later, back_bad, back_short, back_whole}
 use Rattle.demands.specs.Recovery.{strict_at, strict_back, strict_of}
 
 module _ (log : List ℕ) (excess : ℕ) where

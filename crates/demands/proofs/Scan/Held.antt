@@ -9,9 +9,9 @@ use Rattle.refusal.proofs.Cases.{side, which}
 use Rattle.page.specs.Size.{page_size, id_size}
 use Rattle.page.specs.Data.{data_at, copied}
 use Rattle.page.proofs.Counting.{pages_some}
-use Rattle.log.specs.Bounds.{bad_state, bad_cursor}
-use Rattle.log.specs.Output.{WithOutput, with_output}
-use Rattle.log.specs.declared.state.State.{State}
+use Rattle.catalog.specs.Bounds.{bad_state, bad_cursor}
+use Rattle.catalog.specs.Output.{WithOutput, with_output}
+use Rattle.catalog.specs.declared.state.State.{State}
 use Rattle.scanning.specs.Step.{Reaching, reached, ended, faulty, forward_from, Stepping, entry, end, refused, advance_of, step_of}
 use Rattle.scanning.specs.declared.Range.{Range}
 use Rattle.scanning.proofs.Laws.Forward.{reached_entry}

@@ -7,10 +7,10 @@ use mathlib.Core.List.{List, [], ◌∷◌, ◌++◌, Memᴰ}
 use native.Mathlib.Omega.{arith}
 use lib.ListN.{length, take, drop, replicate, length-replicate}
 use lib.Seq.{take_at}
-use Rattle.log.specs.Output.{WithOutput, with_output}
+use Rattle.catalog.specs.Output.{WithOutput, with_output}
 use Rattle.scanning.specs.Step.{Stepping, entry, end, step_of}
 use Rattle.demands.specs.Scan.{Item, Hands, no_more, one_more, Rising, OfRange, Listing}
-use Rattle.log.specs.declared.state.State.{State}
+use Rattle.catalog.specs.declared.state.State.{State}
 use Rattle.scanning.specs.declared.Range.{Range}
 
 -- ---- one listing

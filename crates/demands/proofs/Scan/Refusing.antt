@@ -7,10 +7,10 @@ use native.Mathlib.Omega.{arith}
 use lib.ListN.{take}
 use Rattle.refusal.proofs.Cases.{either}
 use Rattle.page.specs.Size.{page_size}
-use Rattle.log.specs.Bounds.{bad_state, bad_cursor}
-use Rattle.log.specs.Output.{WithOutput}
+use Rattle.catalog.specs.Bounds.{bad_state, bad_cursor}
+use Rattle.catalog.specs.Output.{WithOutput}
 use Rattle.scanning.specs.Step.{Reaching, reached, ended, faulty, forward_from, Stepping, entry, refused, hand_reached, advance_of, step_of}
-use Rattle.log.specs.declared.state.State.{State}
+use Rattle.catalog.specs.declared.state.State.{State}
 use Rattle.scanning.specs.declared.Range.{Range}
 use Rattle.demands.proofs.Output.{hand_refused}
 

@@ -10,18 +10,18 @@ use lib.ListN.{take}
 use Rattle.page.specs.Size.{page_size, page_count}
 use Rattle.page.specs.Entry.{id_at}
 use Rattle.demands.specs.Sound.{Start, SoundStore}
-use Rattle.log.specs.Lookup.{Looking, found, absent, refused, find_of}
+use Rattle.catalog.specs.Lookup.{Looking, found, absent, refused, find_of}
 use Rattle.scanning.specs.Range.{above_lower, holds_of}
 use Rattle.scanning.specs.Scan.{Beginning, at, from_look, from_end, scan_of}
 use Rattle.demands.specs.Lookup.{standing, RightStanding}
 use Rattle.demands.specs.Scan.{Enough, Beyond, Scans}
-use Rattle.log.specs.declared.state.State.{State}
+use Rattle.catalog.specs.declared.state.State.{State}
 use Rattle.scanning.specs.declared.End.{End}
 use Rattle.scanning.specs.declared.End.TheVariants.{Open, Included, Excluded}
 use Rattle.scanning.specs.declared.Range.{Range}
 use Rattle.refusal.proofs.Cases.{side}
 use Rattle.demands.proofs.Sound.{sound_not_bad, sound_length}
-use Rattle.log.proofs.Laws.Lookup.Tests.{find_zero, find_late}
+use Rattle.catalog.proofs.Laws.Lookup.Tests.{find_zero, find_late}
 use Rattle.demands.proofs.Lookup.Right.{find_right}
 use Rattle.scanning.proofs.Laws.Start.{scan_from}
 use Rattle.demands.proofs.Scan.Listed.{items_of, listed, items_end, items_skip}

@@ -12,7 +12,7 @@ use lib.ListN.{length, get_or, length-take, length-drop}
 use Rattle.page.specs.Size.{data_end}
 use Rattle.pushing.specs.Push.{before, entry_data, some, bad_end, bad_batch, large_data, some_large}
 use Rattle.refusal.proofs.Cases.{side}
-use Rattle.log.proofs.Laws.Bounds.{neither}
+use Rattle.catalog.proofs.Laws.Bounds.{neither}
 
 -- ---- some number below n passes a test
 

@@ -11,11 +11,11 @@ use lib.Seq.{drop-drop}
 use Rattle.page.specs.Size.{data_end}
 use Rattle.page.specs.Write.{overwritten, entry_pages}
 use Rattle.page.proofs.Parting.{put_back}
-use Rattle.log.specs.Round.{Round, stop, again, follow}
-use Rattle.log.specs.State.{state_of, moved_to}
+use Rattle.catalog.specs.Round.{Round, stop, again, follow}
+use Rattle.catalog.specs.State.{state_of, moved_to}
 use Rattle.pushing.specs.Push.{none, refused, Pushing, pushing, paper_pushed, before, entry_data, bad_batch, Point, point, bytes_for, wrote, Done, done, refuse, turn, entries_from}
 use Rattle.pushing.specs.Private.{paper_entry_turn}
-use Rattle.log.specs.declared.state.State.{State}
+use Rattle.catalog.specs.declared.state.State.{State}
 use Rattle.pushing.specs.declared.EntryTurn.{EntryTurn}
 use Rattle.pushing.specs.declared.EntryTurn.TheVariants.{Written, Ended}
 use Rattle.pushing.specs.declared.Pushed.{Pushed}

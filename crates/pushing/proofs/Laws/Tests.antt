@@ -9,10 +9,10 @@ use borrow.Author.Tests.{lt-ltb, le-ltb, le-leb, lt-leb}
 use lib.ListN.{length}
 use Rattle.refusal.proofs.Cases.{side}
 use Rattle.page.specs.Size.{id_size, payload_end, data_end}
-use Rattle.log.specs.Round.{Round, again}
-use Rattle.log.specs.Bounds.{bad_state}
+use Rattle.catalog.specs.Round.{Round, again}
+use Rattle.catalog.specs.Bounds.{bad_state}
 use Rattle.pushing.specs.Push.{refused, bad_batch, some_large, Point, point, bytes_for, wrote, Done, done, refuse, turn, entries_from, push_of}
-use Rattle.log.specs.declared.state.State.{State}
+use Rattle.catalog.specs.declared.state.State.{State}
 
 -- ---- the whole batch
 

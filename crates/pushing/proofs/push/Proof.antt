@@ -1,7 +1,7 @@
 -- `push` meets its contract: the tests of the whole batch in order, then the entries. Assumes nothing.
 use mathlib.Core.Path.{sym, ap, ◌∙◌}
 use Rattle.pushing.specs.Push.{Done}
-use Rattle.log.proofs.Laws.Bounds.{good_state}
+use Rattle.catalog.proofs.Laws.Bounds.{good_state}
 use Rattle.pushing.proofs.Laws.Tests.{refuse_state, refuse_batch, refuse_large, entries_in_turn}
 use borrow.Author.Rules.{rules}
 use Rattle.pushing.proofs.push.Statement.{statement}

@@ -12,7 +12,7 @@ use Rattle.page.specs.Mark.{mark_at}
 use Rattle.page.specs.Entry.{Starting, short, cut, whole, length_at, id_at, data_length_at, entry_at}
 use Rattle.page.proofs.Marking.{IsBad, mark_cases, by_start, by_later, by_bad}
 use Rattle.page.proofs.Starting.{IsWhole, is_whole, after_data, after_start}
-use Rattle.log.specs.Round.{Round, stop, again}
+use Rattle.catalog.specs.Round.{Round, stop, again}
 use Rattle.scanning.specs.Range.{holds_of}
 use Rattle.scanning.specs.Step.{Reaching, reached, ended, faulty, step_start, step_page, forward, forward_from}
 use Rattle.scanning.specs.declared.Range.{Range}

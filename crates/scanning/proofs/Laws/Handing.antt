@@ -6,12 +6,12 @@ use mathlib.Core.List.{List}
 use lib.ListN.{length, take}
 use Rattle.page.specs.Size.{page_size}
 use Rattle.page.specs.Data.{copied}
-use Rattle.log.specs.Output.{with_output, hand_over}
-use Rattle.log.specs.Bounds.{bad_state, bad_cursor}
+use Rattle.catalog.specs.Output.{with_output, hand_over}
+use Rattle.catalog.specs.Bounds.{bad_state, bad_cursor}
 use Rattle.scanning.specs.Step.{reached, ended, faulty, forward_from, entry, end, refused, hand_reached, advance_of, step_of}
-use Rattle.log.specs.declared.state.State.{State}
+use Rattle.catalog.specs.declared.state.State.{State}
 use Rattle.scanning.specs.declared.Range.{Range}
-use Rattle.log.proofs.Laws.Output.{hand_small, hand_copied}
+use Rattle.catalog.proofs.Laws.Output.{hand_small, hand_copied}
 
 module _ (log : List ℕ) (range : Range) (from : ℕ) (out : List ℕ) where
   pub advance_fault : (number value : ℕ) → faulty number value ≡ forward_from log range from → with_output (refused number value) out ≡ advance_of log range from out

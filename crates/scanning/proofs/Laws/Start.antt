@@ -3,10 +3,10 @@ use Prim.Native.Nat.{ℕ}
 use mathlib.Core.Path.{◌≡◌}
 use mathlib.Core.Bool.{true, false}
 use mathlib.Core.List.{List}
-use Rattle.log.specs.Bounds.{bad_state}
-use Rattle.log.specs.Lookup.{found, absent, refused as unfound, find_of}
+use Rattle.catalog.specs.Bounds.{bad_state}
+use Rattle.catalog.specs.Lookup.{found, absent, refused as unfound, find_of}
 use Rattle.scanning.specs.Scan.{at, refused, from_look, from_end, scan_of}
-use Rattle.log.specs.declared.state.State.{State}
+use Rattle.catalog.specs.declared.state.State.{State}
 use Rattle.scanning.specs.declared.End.{End}
 use Rattle.scanning.specs.declared.Range.{Range}
 

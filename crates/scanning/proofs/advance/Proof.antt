@@ -2,7 +2,7 @@
 use mathlib.Core.Path.{◌≡◌, sym, ap, ◌∙◌}
 use native.Mathlib.Omega.{arith}
 use borrow.Author.Rules.{rules}
-use Rattle.log.specs.Output.{with_output}
+use Rattle.catalog.specs.Output.{with_output}
 use Rattle.scanning.specs.Step.{reached, forward_from}
 use Rattle.scanning.specs.Private.{paper_reached}
 use Rattle.scanning.proofs.Laws.Forward.{ReachedEntry, reached_entry}

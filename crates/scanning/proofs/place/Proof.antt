@@ -1,7 +1,7 @@
 -- `place` meets its contract. Assumes nothing.
 use mathlib.Core.Path.{sym, ap, ◌∙◌}
 use native.Mathlib.Omega.{arith}
-use Rattle.log.specs.Lookup.{paper_look}
+use Rattle.catalog.specs.Lookup.{paper_look}
 use Rattle.scanning.proofs.Laws.Start.{place_found, place_absent, place_refused}
 use Rattle.scanning.proofs.place.Statement.{statement}
 use Rattle.scanning.proofs.place.Tie as tie

@@ -1,7 +1,7 @@
 -- `step` meets its contract. Assumes nothing.
 use mathlib.Core.Path.{sym, ◌∙◌}
 use borrow.Author.Rules.{rules}
-use Rattle.log.proofs.Laws.Bounds.{good_state, length_log}
+use Rattle.catalog.proofs.Laws.Bounds.{good_state, length_log}
 use Rattle.scanning.proofs.Laws.Handing.{step_bad_state, step_bad_cursor, step_open}
 use Rattle.scanning.proofs.step.Statement.{statement}
 use Rattle.scanning.proofs.step.Tie as tie

@@ -1,7 +1,7 @@
 -- `awirbesh_lookup` meets its contract. Assumes nothing.
 use mathlib.Core.Path.{ap, ◌∙◌}
-use Rattle.log.specs.Output.{WithOutput}
-use Rattle.log.specs.Lookup.{Looking}
+use Rattle.catalog.specs.Output.{WithOutput}
+use Rattle.catalog.specs.Lookup.{Looking}
 use Rattle.awirbesh.specs.Read.{look_numbers}
 use borrow.Author.Rules.{rules}
 use Rattle.awirbesh.proofs.reading.awirbesh_lookup.Statement.{statement}

@@ -1,6 +1,6 @@
 -- `awirbesh_step` meets its contract. Assumes nothing.
 use mathlib.Core.Path.{ap, ◌∙◌}
-use Rattle.log.specs.Output.{WithOutput}
+use Rattle.catalog.specs.Output.{WithOutput}
 use Rattle.scanning.specs.Step.{Stepping}
 use Rattle.awirbesh.specs.Read.{stepped_numbers}
 use borrow.Author.Rules.{rules}

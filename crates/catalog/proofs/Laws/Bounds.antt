@@ -1,0 +1,39 @@
+-- What refusal 1 tests, and what is known where it is not given. Assumes nothing.
+use Prim.Native.Nat.{ℕ, ◌%◌, ◌≤◌, ◌^◌}
+use mathlib.Core.Path.{◌≡◌, refl}
+use mathlib.Core.Bool.{Bool, true, false, ◌||◌}
+use mathlib.Core.List.{List}
+use native.Mathlib.Omega.{arith}
+use borrow.Author.Tests.{le-ltb, eq-eqb, ltb-false, eqb-true, not-false}
+use lib.ListN.{length, take}
+use lib.Seq.{length-take-le}
+use Rattle.page.specs.Size.{page_size}
+use Rattle.catalog.specs.Bounds.{too_long, bad_state, Fits, Good}
+
+pub neither : (s t : Bool) → (s || t) ≡ false → (s ≡ false) × (t ≡ false)
+neither true t e = absurd (let z : ◌≡◌ {A = ℕ} 0 1 = cc in omega arith)
+neither false t e = (refl, e)
+
+pub fitting : (store : List ℕ) (n : ℕ) → too_long store n ≡ false → Fits store n
+unfolding too_long
+fitting store n e =
+    let both = neither _ _ e in
+    record { small = ltb-false (2 ^ 31) (length store) both.0; inside = ltb-false (length store) n both.1 }
+
+pub good_state : (store : List ℕ) (n : ℕ) → bad_state store n ≡ false → Good store n
+unfolding bad_state
+good_state store n e =
+    let both = neither (too_long store n) _ e in
+    record { fits = fitting store n both.0; whole = eqb-true (n % page_size) 0 (not-false _ both.1) }
+
+pub not_too_long : (store : List ℕ) (n : ℕ) → Fits store n → too_long store n ≡ false
+unfolding too_long
+not_too_long store n f = rw (le-ltb (2 ^ 31) (length store) f.small, le-ltb (length store) n f.inside)
+
+pub not_bad : (store : List ℕ) (n : ℕ) → Good store n → bad_state store n ≡ false
+unfolding bad_state
+not_bad store n g = rw (not_too_long store n g.fits, eq-eqb (n % page_size) 0 g.whole)
+
+-- the log is the first n bytes
+pub length_log : (store : List ℕ) (n : ℕ) → n ≤ length store → length (take n store) ≡ n
+length_log store n h = length-take-le n store h
