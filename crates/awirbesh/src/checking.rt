@@ -9,14 +9,14 @@ use crate::state::StateNumbers;
 use catalog::{Checked, Recovered};
 
 #[repr(C)]
-#[derive(Drop)]
+#[derive(Clone, Copy)]
 pub struct CheckedNumbers {
     pub number: u64,
     pub value: u64,
 }
 
 #[repr(C)]
-#[derive(Drop)]
+#[derive(Clone, Copy)]
 pub struct RecoveredNumbers {
     pub number: u64,
     pub value: u64,

@@ -13,21 +13,21 @@ use scanning::{End, Range, Started, Stepped};
 
 // One end of a range: kind 1 is included, 2 is excluded, any other is open.
 #[repr(C)]
-#[derive(Drop)]
+#[derive(Clone, Copy)]
 pub struct EndNumbers {
     pub kind: u64,
     pub id: u64,
 }
 
 #[repr(C)]
-#[derive(Drop)]
+#[derive(Clone, Copy)]
 pub struct RangeNumbers {
     pub lower: EndNumbers,
     pub upper: EndNumbers,
 }
 
 #[repr(C)]
-#[derive(Drop)]
+#[derive(Clone, Copy)]
 pub struct LookNumbers {
     pub number: u64,
     pub value: u64,
@@ -37,7 +37,7 @@ pub struct LookNumbers {
 }
 
 #[repr(C)]
-#[derive(Drop)]
+#[derive(Clone, Copy)]
 pub struct StartedNumbers {
     pub number: u64,
     pub value: u64,
@@ -46,7 +46,7 @@ pub struct StartedNumbers {
 
 // kind 1 is an entry, 0 the end.
 #[repr(C)]
-#[derive(Drop)]
+#[derive(Clone, Copy)]
 pub struct SteppedNumbers {
     pub number: u64,
     pub value: u64,

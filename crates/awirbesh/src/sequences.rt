@@ -6,14 +6,14 @@ ghost use Rattle.awirbesh.specs.Sequence.{sequence_from, sequence_numbers, noted
 use sequence::{IdSequence, Noted};
 
 #[repr(C)]
-#[derive(Drop)]
+#[derive(Clone, Copy)]
 pub struct SequenceNumbers {
     pub start: u64,
     pub after: u64,
 }
 
 #[repr(C)]
-#[derive(Drop)]
+#[derive(Clone, Copy)]
 pub struct NotedNumbers {
     pub number: u64,
     pub sequence: SequenceNumbers,

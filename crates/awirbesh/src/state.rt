@@ -7,7 +7,7 @@ ghost use Rattle.awirbesh.specs.State.{state_from, state_numbers, taken_numbers,
 use catalog::{Raised, State, Taken};
 
 #[repr(C)]
-#[derive(Drop)]
+#[derive(Clone, Copy)]
 pub struct StateNumbers {
     pub length: u64,
     pub last: u64,
@@ -16,7 +16,7 @@ pub struct StateNumbers {
 }
 
 #[repr(C)]
-#[derive(Drop)]
+#[derive(Clone, Copy)]
 pub struct TakenNumbers {
     pub number: u64,
     pub id: u64,
@@ -24,7 +24,7 @@ pub struct TakenNumbers {
 }
 
 #[repr(C)]
-#[derive(Drop)]
+#[derive(Clone, Copy)]
 pub struct RaisedNumbers {
     pub number: u64,
     pub state: StateNumbers,

@@ -9,7 +9,7 @@ use crate::state::StateNumbers;
 use pushing::{Pushed, Reason};
 
 #[repr(C)]
-#[derive(Drop)]
+#[derive(Clone, Copy)]
 pub struct PushedNumbers {
     pub number: u64,
     pub written: u64,

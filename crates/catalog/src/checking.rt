@@ -9,14 +9,14 @@ use crate::bounds;
 use page::{Entry, Mark, Page};
 use refusal::Refusal;
 
-#[derive(Drop)]
+#[derive(Clone, Copy)]
 pub enum Checked {
     Sound,
     Refused(Refusal),
 }
 
 // What a page that was read says: where to go on and the last id before that page, or a fault.
-#[derive(Drop)]
+#[derive(Clone, Copy)]
 enum Passed {
     On { page: usize, last: u64 },
     Fault(Refusal),

@@ -1,4 +1,6 @@
 // The catalog log over page's promises: the state, refusal 1, the sound check, recovery and the lookup.
+#![tactic(auto)]
+
 mod bounds;
 mod checking;
 mod recovery;

@@ -9,7 +9,7 @@ use page::{Entry, Mark, Page};
 use refusal::Refusal;
 
 // The state, the size of the excess that was cut off and the count of pages dropped, or a refusal.
-#[derive(Drop)]
+#[derive(Clone, Copy)]
 pub enum Recovered {
     At {
         state: State,

@@ -13,7 +13,7 @@ use page::{Entry, Mark, Page};
 use refusal::Refusal;
 
 // Found with its data length, absent where it would stand, or a refusal.
-#[derive(Drop)]
+#[derive(Clone, Copy)]
 pub enum Look {
     Found { position: u64, length: u64 },
     Absent { position: u64 },
@@ -21,7 +21,7 @@ pub enum Look {
 }
 
 // What a page says to the walk back: the search ends, its entry lies below or above the id, or none starts there.
-#[derive(Drop)]
+#[derive(Clone, Copy)]
 enum Says {
     End(Look),
     Below { id: u64, after: usize },

@@ -5,7 +5,7 @@ ghost use Rattle.catalog.specs.Raise.{bad_step, raise_of, paper_raised};
 
 use refusal::Refusal;
 
-#[derive(Drop)]
+#[derive(Clone, Copy)]
 pub struct State {
     pub length: u64,
     pub last: u64,
@@ -14,14 +14,14 @@ pub struct State {
 }
 
 // An id handed out with the state after it, or a refusal that changes nothing.
-#[derive(Drop)]
+#[derive(Clone, Copy)]
 pub enum Taken {
     Id { id: u64, state: State },
     Refused(Refusal),
 }
 
 // The state with a higher ceiling, to be stored before it is used, or a refusal that changes nothing.
-#[derive(Drop)]
+#[derive(Clone, Copy)]
 pub enum Raised {
     To { state: State },
     Refused(Refusal),

@@ -27,7 +27,7 @@ fn number_at(part: &[u8], a: usize, k: usize) -> u64
 }
 
 // What an entry's first page says of it: the payload's length and the id.
-#[derive(Drop)]
+#[derive(Clone, Copy)]
 struct Header {
     length: usize,
     id: u64,
@@ -47,7 +47,7 @@ impl Header {
 }
 
 // What starts at a page: too short for an id, an entry whose pages run past the log's whole pages, or a whole one with its data length and the page after it.
-#[derive(Drop)]
+#[derive(Clone, Copy)]
 pub enum Entry {
     Short,
     Cut {

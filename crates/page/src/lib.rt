@@ -14,7 +14,7 @@ pub use entry::Entry;
 pub use marks::Mark;
 pub use writing::write_entry;
 
-#[derive(Drop)]
+#[derive(Clone, Copy)]
 pub struct Page;
 
 impl Page {

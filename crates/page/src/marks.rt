@@ -6,7 +6,7 @@ ghost use Rattle.page.specs.Mark.{mark_at, mark_of};
 use crate::Page;
 
 // 1 starts an entry, 0 does not, and no other mark is good.
-#[derive(Drop)]
+#[derive(Clone, Copy)]
 pub enum Mark {
     Start,
     Later,

@@ -9,13 +9,13 @@ use page::Page;
 use refusal::Refusal;
 
 // Why a push ended: for nothing, or for a refusal.
-#[derive(Drop)]
+#[derive(Clone, Copy)]
 pub enum Reason {
     None,
     Refused(Refusal),
 }
 
-#[derive(Drop)]
+#[derive(Clone, Copy)]
 pub struct Pushed {
     pub reason: Reason,
     pub written: u64,
@@ -76,7 +76,7 @@ fn is_some_large(ids: &[u64], ends: &[u64], bytes: &[u8]) -> bool
 }
 
 // What an entry's turn comes to: the state after its pages, or the push's end.
-#[derive(Drop)]
+#[derive(Clone, Copy)]
 enum EntryTurn {
     Written(State),
     Ended(Pushed),

@@ -14,7 +14,7 @@ use page::{Entry, Mark, Page};
 use refusal::Refusal;
 
 // One end of a range of ids.
-#[derive(Drop)]
+#[derive(Clone, Copy)]
 pub enum End {
     Open,
     Included(u64),
@@ -22,7 +22,7 @@ pub enum End {
 }
 
 // The ids between two ends.
-#[derive(Drop)]
+#[derive(Clone, Copy)]
 pub struct Range {
     pub lower: End,
     pub upper: End,
@@ -65,7 +65,7 @@ fn is_below(upper: End, id: u64) -> bool
 }
 
 // The cursor of a scan's first step, or a refusal.
-#[derive(Drop)]
+#[derive(Clone, Copy)]
 pub enum Started {
     At { cursor: u64 },
     Refused(Refusal),
@@ -102,7 +102,7 @@ pub fn scan(store: &[u8], state: State, range: Range) -> Started
 }
 
 // Where a step comes to, with nothing copied yet.
-#[derive(Drop)]
+#[derive(Clone, Copy)]
 enum Reached {
     Entry {
         page: usize,
@@ -117,7 +117,7 @@ enum Reached {
 }
 
 // What one page says to a step: it stops there, or goes on at a later page.
-#[derive(Drop)]
+#[derive(Clone, Copy)]
 enum Seen {
     Stop(Reached),
     On { page: usize },
@@ -180,7 +180,7 @@ fn forward(log: &[u8], range: Range, from: usize) -> Reached
 }
 
 // An entry of the range handed over, the end, or a refusal.
-#[derive(Drop)]
+#[derive(Clone, Copy)]
 pub enum Stepped {
     Entry { id: u64, length: u64, cursor: u64 },
     End { cursor: u64 },

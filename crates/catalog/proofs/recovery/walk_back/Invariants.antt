@@ -1,0 +1,9 @@
+-- `walk_back` meets its contract: the walk from here, in what is left, ends as the walk from the last page. Assumes nothing.
+use Rattle.catalog.proofs.Laws.Recovery.Steps.{BackLoop}
+use Rattle.catalog.proofs.recovery.walk_back.Given as goal
+
+abbrev pub invariant-loop-p : goal.invariant-loop-p
+invariant-loop-p l = BackLoop l.log l.excess l.left l.p
+
+abbrev pub decreases-loop-p : goal.decreases-loop-p
+decreases-loop-p l = l.p

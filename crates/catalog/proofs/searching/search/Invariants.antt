@@ -1,0 +1,17 @@
+-- `search` meets its contract: each way through the loops is one law of `Windows`. Assumes nothing.
+use Prim.Native.Nat.{◌-◌}
+use mathlib.Core.Path.{◌≡◌}
+use Rattle.catalog.proofs.Laws.Lookup.Windows.{WindowLoop, BackLoop}
+use Rattle.catalog.proofs.searching.search.Given as goal
+
+abbrev pub invariant-back : goal.invariant-back
+invariant-back l = (l.lo ≡ l.initial.lo) × (l.hi ≡ l.initial.hi) × BackLoop l.log l.next l.id l.lo l.hi l.a l.b l.answer l.g l.s
+
+abbrev pub decreases-back : goal.decreases-back
+decreases-back l = l.s
+
+abbrev pub invariant-window : goal.invariant-window
+invariant-window l = WindowLoop l.log l.next l.id l.lo l.hi l.a l.b l.answer
+
+abbrev pub decreases-window : goal.decreases-window
+decreases-window l = l.hi - l.lo
