@@ -135,6 +135,7 @@ module _ (P : Said → Type 0) where
 
   some_later : (before later : List Said) → Some P later → Some P (onto before later)
   unfolding onto
+  some_later before [] s = absurd s
   some_later before (x ∷ later) (inl s) = some_before (x ∷ before) later (inl s)
   some_later before (x ∷ later) (inr s) = some_later (x ∷ before) later s
 
