@@ -1,5 +1,5 @@
 -- Demand 3, and the last sentence of demand 2. Assumes nothing.
-use Prim.Native.Nat.{ℕ, suc, ◌-◌, ◌*◌, ◌/◌, ◌≤◌, ◌<◌}
+use Prim.Native.Nat.{ℕ, suc, ◌*◌, ◌/◌, ◌≤◌, ◌<◌}
 use mathlib.Core.Path.{◌≡◌, refl, sym, ap, ◌∙◌, subst}
 use mathlib.Core.Logic.{◌↔◌, ⊎_elim}
 use mathlib.Core.List.Memᴰ
