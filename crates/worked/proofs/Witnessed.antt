@@ -1,25 +1,25 @@
 -- Witnesses: what the theorems ask for can be had, and what they then say. Assumes nothing.
---   checked-sound                             the empty log, and a sound log of two entries with an idle page between: empty-is-sound, store-is-sound
---   lookup-right, scan-right, reached-inside  of that log: three-looked-up, all-scanned, first-reached
---   any-guess-right                           by guesses that are not the rule's: other-guesses, other-guesses-right
---   refused-lookup-keeps, refused-step-keeps  in a state that is refused 1: lookup-kept, step_kept
---   settled, begun-settled                    from its recovered state, 3 stays found and 2 absent: three-stays-found, two-stays-absent, three-was-given
---   settled-by-stored, settled-in-words       3 is settled by the last entry stored too, and stays so: three-settled, three-stays-settled
---   refused-keeps-id, tried-again             4 is refused for room, and written with less data, and in a longer store: four-refused, four-with-less, four-with-room;
---                                             7 is refused with 16,777,208 bytes, and written with fewer: seven-refused, seven-written, seven-there
---   last-is-stored, push-last-stored          4 is the last id stored, after it was refused and a longer store lent; and 5: four-is-last, five-is-last
---   push-right, push-whole                    5 is pushed: five-is-held, all-written
---   pages-alone, earlier-hidden               5 after 9, 9, 9 over 255s, by itself after that log, after 6: five-alike, nines-hidden
---   filling-written                           of its second page, over 255s: five-filled
---   read-back                                 two ids are taken, and the second, 5, is pushed: five-reads-back, five-stays-read
---   torn, cut-at-byte, uncut-same             4 and 5 are pushed and cut in 5; a log cut without a push; one that is not cut: both-torn, four-kept, cut-in-three, whole-uncut; five-is-cut
---   recovered-again, recovered-adds-up        of that cut: four-again
---   begun-lives                               of what is left of a torn log: torn-begins
---   settled, through cuts and after 9         then 3 is found as before: torn-goes-on, three-through-a-cut, three-after-nine
---   read-back, through a cut in the push      of 4, where 5 is cut: four-reads-back, four-below-next, four-stays-read
---   recover-right, recover-alike              a length with an excess; logs that differ before their last whole entry: excess-recovers, recovers-alike, torn-alike
---   complete-right, note-adds                 over words that are not zero: notes-right, three-added
---   data-one-part                             the data of an entry of one page: five-bytes
+--   checked_sound                             the empty log, and a sound log of two entries with an idle page between: empty_is_sound, store_is_sound
+--   lookup_right, scan_right, reached_inside  of that log: three_looked_up, all_scanned, first_reached
+--   any_guess_right                           by guesses that are not the rule's: other_guesses, other_guesses_right
+--   refused_lookup_keeps, refused_step_keeps  in a state that is refused 1: lookup_kept, step_kept
+--   settled, begun_settled                    from its recovered state, 3 stays found and 2 absent: three_stays_found, two_stays_absent, three_was_given
+--   settled_by_stored, settled_in_words       3 is settled by the last entry stored too, and stays so: three_settled, three_stays_settled
+--   refused_keeps_id, tried_again             4 is refused for room, and written with less data, and in a longer store: four_refused, four_with_less, four_with_room;
+--                                             7 is refused with 16,777,208 bytes, and written with fewer: seven_refused, seven_written, seven_there
+--   last_is_stored, push_last_stored          4 is the last id stored, after it was refused and a longer store lent; and 5: four_is_last, five_is_last
+--   push_right, push_whole                    5 is pushed: five_is_held, all_written
+--   pages_alone, earlier_hidden               5 after 9, 9, 9 over 255s, by itself after that log, after 6: five_alike, nines_hidden
+--   filling_written                           of its second page, over 255s: five_filled
+--   read_back                                 two ids are taken, and the second, 5, is pushed: five_reads_back, five_stays_read
+--   torn, cut_at_byte, uncut_same             4 and 5 are pushed and cut in 5; a log cut without a push; one that is not cut: both_torn, four_kept, cut_in_three, whole_uncut; five_is_cut
+--   recovered_again, recovered_adds_up        of that cut: four_again
+--   begun_lives                               of what is left of a torn log: torn_begins
+--   settled, through cuts and after 9         then 3 is found as before: torn_goes_on, three_through_a_cut, three_after_nine
+--   read_back, through a cut in the push      of 4, where 5 is cut: four_reads_back, four_below_next, four_stays_read
+--   recover_right, recover_alike              a length with an excess; logs that differ before their last whole entry: excess_recovers, recovers_alike, torn_alike
+--   complete_right, note_adds                 over words that are not zero: notes_right, three_added
+--   data_one_part                             the data of an entry of one page: five_bytes
 use Rattle.std.proofs.Common.{◌≡◌, ℕ, zero, suc, ◌+◌, ◌-◌, ◌*◌, ◌^◌, ◌<◌, ◌≤◌, true, ◌⊎◌, ◌↔◌, List, [], ◌∷◌, ◌++◌, length, take, drop, replicate, refl, ap, inl, inr, ⊎_elim, arith, lit<, lit≤}
 use mathlib.Core.List.Memᴰ
 use lib.ListN.{length-replicate}
