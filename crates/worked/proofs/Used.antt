@@ -1,5 +1,5 @@
 -- 11.11: a history that meets what `used_once` asks; and for each of the three conditions the smallest history that meets the other two, and in which an id is used twice. Assumes nothing.
-use Rattle.std.proofs.Common.{◌≡◌, ℕ, ◌^◌, ◌<◌, ◌≤◌, ◌⊎◌, List, [], ◌∷◌, get_or, take, replicate, sym, refl, ap, ◌∙◌, subst, inl, inr, ⊎_elim, arith, lit<, lit≤}
+use Rattle.std.proofs.Common.{◌≡◌, ℕ, ◌^◌, ◌<◌, ◌⊎◌, List, [], ◌∷◌, get_or, take, replicate, sym, refl, ap, ◌∙◌, subst, inl, inr, ⊎_elim, arith, lit<, lit≤}
 use Rattle.page.specs.Size.{pages_for, page_at}
 use Rattle.page.specs.Bytes.{number_at, bytes_of}
 use Rattle.page.specs.Mark.{mark_at}
