@@ -1,4 +1,6 @@
 // The push of a batch: the tests of the whole batch, then its entries in turn.
+#![tactic(auto)]
+
 ghost use Rattle.std.specs.Prelude.{◌≡◌, false, ◌≤◌, length};
 ghost use Rattle.refusal.specs.Refusal.{number_of, value_of};
 ghost use Rattle.pushing.specs.Push.{bad_batch, some_large, pushing, refused, paper_pushed, point, turn, entries_from, push_of};

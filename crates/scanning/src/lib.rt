@@ -1,4 +1,6 @@
 // The scan: a range of ids, where it starts, and its steps forward through the log.
+#![tactic(auto)]
+
 ghost use Rattle.std.specs.Prelude.{◌≡◌, ◌<◌};
 ghost use Rattle.page.specs.Size.{page_count};
 ghost use Rattle.page.specs.Entry.{entry_at};

@@ -1,0 +1,11 @@
+-- `Range::holds` meets its contract. Assumes nothing.
+use Rattle.scanning.specs.Range.{holds_of}
+use Rattle.scanning.proofs.Range.holds.Goals as goal
+
+pub returns-then-is_above : goal.returns-then-is_above
+unfolding holds_of
+returns-then-is_above c = rw (← c.is_above.ensures, c.if-is_above.true) c.is_below.ensures
+
+pub returns : goal.returns
+unfolding holds_of
+returns c = rw (← c.is_above.ensures, c.if-is_above.false)

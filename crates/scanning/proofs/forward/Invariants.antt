@@ -1,0 +1,10 @@
+-- `forward` meets its contract. The loop's invariant: the rounds from here end as those from the first page. Assumes nothing.
+use Prim.Native.Nat.{◌-◌}
+use Rattle.scanning.proofs.Laws.Forward.{ForwardLoop}
+use Rattle.scanning.proofs.forward.Given as goal
+
+abbrev pub invariant-loop-p : goal.invariant-loop-p
+invariant-loop-p l = ForwardLoop l.log l.range l.from l.p
+
+abbrev pub decreases-loop-p : goal.decreases-loop-p
+decreases-loop-p l = l.pages - l.p
