@@ -1,4 +1,6 @@
 // Which of the ids from a start on have been noted, in 64 words that the caller lends.
+#![tactic(auto)]
+
 ghost use Rattle.std.specs.Prelude.{◌≡◌, ◌-◌, ◌<◌};
 ghost use Rattle.sequence.specs.Sequence.{new_of, complete_of, paper_noted, note_of, raised, truncated, truncate_of};
 
@@ -7,7 +9,7 @@ mod words;
 use refusal::Refusal;
 
 // The ids from start up to but not including after remain: after is one past the highest noted, so that nothing here wraps.
-#[derive(Drop)]
+#[derive(Clone, Copy)]
 pub struct IdSequence {
     pub start: u64,
     pub after: u64,
@@ -30,6 +32,7 @@ impl IdSequence {
         }
     }
 
+    #[tactic(auto, using(crate::proofs::Notes::note_below, crate::proofs::Notes::note_far, crate::proofs::Notes::note_last))]
     pub fn note(self, words: &mut [u64; 64], id: u64) -> Noted
         ensures result_value { paper_noted result ≡ (note_of self words.old id).answer }
         ensures words_after { words.new ≡ (note_of self words.old id).words }
@@ -88,6 +91,7 @@ impl IdSequence {
 }
 
 // The new start: as long as any remain it moves past the first 64, or however many there are, if each is noted.
+#[tactic(auto, using(crate::proofs::Rounds::rounds_last))]
 fn truncate(words: &mut [u64; 64], from: u64, after: u64) -> u64
     ensures { truncated result words.new ≡ truncate_of after from words.old }
 {
