@@ -1,5 +1,5 @@
 // A line of the list: eight numbers of sixteen hexadecimal digits, each followed by one byte.
-#[derive(Drop)]
+#[derive(Clone, Copy)]
 pub struct Line {
     pub kind: u64,
     pub a: u64,
@@ -16,19 +16,11 @@ fn wide(b: u8) -> u64 {
 
 // The value of a hexadecimal digit; 0 for what is none.
 fn digit(c: u8) -> u64 {
-    if c < 48 {
-        return 0;
+    match c {
+        b'0'..=b'9' => wide(c - b'0'),
+        b'a'..=b'f' => wide(c - b'a' + 10),
+        _ => 0,
     }
-    if c <= 57 {
-        return wide(c - 48);
-    }
-    if c < 97 {
-        return 0;
-    }
-    if c <= 102 {
-        return wide(c - 87);
-    }
-    0
 }
 
 // Four digits from a place on.

@@ -1,10 +1,14 @@
 // Replays the Rust's answers, from the list in data/: `answers` says of each call what nebari gave.
+#![tactic(auto)]
+
 mod line;
 mod play;
 mod sum;
 
-use libc::STDOUT_FILENO;
 use play::World;
+use std::fs::File;
+use std::io;
+use std::io::{ErrorKind, Read};
 
 // One line: the arrays are lent, the numbers go in and come out.
 fn turn(
@@ -18,8 +22,7 @@ fn turn(
     words: &mut [u64; 64],
 ) -> World {
     let l = line::read(bytes);
-    let kind = l.kind;
-    match kind {
+    match l.kind {
         0 => play::fresh(w, l, store, pattern),
         1 => play::stage(w, l, ids, ends),
         2 => play::push(w, l, store, ids, ends, pattern),
@@ -35,17 +38,28 @@ fn turn(
     }
 }
 
-fn replay(fd: i32) -> World {
-    let mut store = io::large_buffer();
-    let mut pattern = io::large_buffer();
-    let mut out = io::large_buffer();
-    let mut ids = [0u64; 16];
-    let mut ends = [0u64; 16];
-    let mut words = [0u64; 64];
-    let mut bytes = [0u8; 136];
+// Whether another whole line was read.
+fn read_line(list: &mut impl Read, bytes: &mut [u8; 136]) -> io::Result<bool> {
+    match list.read_exact(bytes) {
+        Ok(()) => Ok(true),
+        Err(e) if e.kind() == ErrorKind::UnexpectedEof => Ok(false),
+        Err(e) => Err(e),
+    }
+}
+
+fn replay(list: &mut impl Read) -> io::Result<World> {
+    let mut store = [0; 65536];
+    let mut pattern = [0; 65536];
+    let mut out = [0; 65536];
+    let mut ids = [0; 16];
+    let mut ends = [0; 16];
+    let mut words = [0; 64];
+    let mut bytes = [0; 136];
     let mut w = play::begin();
-    let mut turns: u64 = 1000000;
-    while 0 < turns && io::read_full(fd, &mut bytes) == 136 {
+    for _ in 0..1000000 {
+        if !read_line(list, &mut bytes)? {
+            break;
+        }
         w = turn(
             w,
             &bytes,
@@ -56,21 +70,14 @@ fn replay(fd: i32) -> World {
             &mut ends,
             &mut words,
         );
-        turns -= 1;
     }
-    w
+    Ok(w)
 }
 
-fn main() {
-    let fd = os::open_read(b"answers");
-    if fd < 0 {
-        os::fail(b"answers");
-        return;
-    }
-    let w = replay(fd);
-    libc::close(fd);
-    io::print_decimal(STDOUT_FILENO, w.compared);
-    io::write_all(STDOUT_FILENO, b" answers of the Rust replayed, ");
-    io::print_decimal(STDOUT_FILENO, w.wrong);
-    io::write_all(STDOUT_FILENO, b" differ\n");
+fn main(rt: HostRuntime) -> io::Result<()> {
+    let mut list = File::open(&rt, "answers")?;
+    let w = replay(&mut list)?;
+    let compared = w.compared;
+    let wrong = w.wrong;
+    println!(rt; "{compared} answers of the Rust replayed, {wrong} differ")
 }

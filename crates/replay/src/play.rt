@@ -8,7 +8,7 @@ use scanning::{End, Range, Started, Stepped};
 use sequence::{IdSequence, Noted};
 
 // What goes on from line to line beside the lent arrays.
-#[derive(Drop)]
+#[derive(Clone, Copy)]
 pub struct World {
     pub length: u64,
     pub last: u64,
@@ -41,12 +41,11 @@ fn one_more(n: u64) -> u64 {
 
 // An answer was compared.
 fn judged(w: World, right: bool) -> World {
-    let mut after = w;
-    after.compared = one_more(w.compared);
-    if !right {
-        after.wrong = one_more(w.wrong);
+    World {
+        compared: one_more(w.compared),
+        wrong: if right { w.wrong } else { one_more(w.wrong) },
+        ..w
     }
-    after
 }
 
 fn state_of(w: World) -> State {
@@ -62,33 +61,28 @@ fn state_of(w: World) -> State {
 
 // Fills a store with a byte that is not zero, so that zeros in a page are the push's own.
 fn fill(store: &mut [u8]) {
-    let mut i: usize = 0;
-    while i < store.len() {
-        store[i] = 0x5a;
-        i += 1;
-    }
+    store.fill(0x5a);
 }
 
 // Byte i of the pattern that the entries' data is cut from.
 fn draw(pattern: &mut [u8], seed: u64) {
     let from = (seed % 251) as usize;
-    let mut i: usize = 0;
-    while i < pattern.len() {
-        pattern[i] = ((i % 251 + from) % 251) as u8;
-        i += 1;
+    for (i, byte) in pattern.iter_mut().enumerate() {
+        *byte = ((i % 251 + from) % 251) as u8;
     }
 }
 
 pub fn fresh(w: World, l: Line, store: &mut [u8], pattern: &mut [u8]) -> World {
     fill(store);
     draw(pattern, l.a);
-    let mut after = w;
-    after.length = 0;
-    after.last = 0;
-    after.next = 1;
-    after.staged = 0;
-    after.end = 0;
-    after
+    World {
+        length: 0,
+        last: 0,
+        next: 1,
+        staged: 0,
+        end: 0,
+        ..w
+    }
 }
 
 pub fn stage(w: World, l: Line, ids: &mut [u64], ends: &mut [u64]) -> World {
@@ -110,10 +104,11 @@ pub fn stage(w: World, l: Line, ids: &mut [u64], ends: &mut [u64]) -> World {
     let i = at as usize;
     ids[i] = l.a;
     ends[i] = end + length;
-    let mut after = w;
-    after.staged = at + 1;
-    after.end = end + length;
-    after
+    World {
+        staged: at + 1,
+        end: end + length,
+        ..w
+    }
 }
 
 fn number_of(reason: Reason) -> u64 {
@@ -140,25 +135,23 @@ pub fn push(
     }
     let pushed = pushing::push(store, state_of(w), &ids[..n], &ends[..n], pattern);
     let state = pushed.state;
-    let mut after = w;
-    after.length = state.length;
-    after.last = state.last;
-    after.staged = 0;
-    after.end = 0;
-    let reason = pushed.reason;
-    let answer = number_of(reason) == l.a && pushed.written == l.b;
-    let numbers = after.length == l.c && after.last == l.d;
-    let bytes = sum::of_front(0, store, after.length) == l.e;
+    let after = World {
+        length: state.length,
+        last: state.last,
+        staged: 0,
+        end: 0,
+        ..w
+    };
+    let answer = number_of(pushed.reason) == l.a && pushed.written == l.b;
+    let numbers = state.length == l.c && state.last == l.d;
+    let bytes = sum::of_front(0, store, state.length) == l.e;
     judged(after, answer && numbers && bytes)
 }
 
 pub fn next(w: World, l: Line) -> World {
-    let mut after = w;
-    after.next = l.a;
-    after
+    World { next: l.a, ..w }
 }
 
-// A page with mark 0 after the last entry: the store's bytes there are still zeros.
 // A page with mark 0; the rest of it is the store's.
 pub fn idle(w: World, store: &mut [u8]) -> World {
     let length = w.length;
@@ -170,14 +163,14 @@ pub fn idle(w: World, store: &mut [u8]) -> World {
         return judged(w, false);
     }
     store[at] = 0;
-    let mut after = w;
-    after.length = length + (Page::SIZE as u64);
-    after
+    World {
+        length: length + (Page::SIZE as u64),
+        ..w
+    }
 }
 
 pub fn lookup(w: World, l: Line, store: &[u8], out: &mut [u8]) -> World {
-    let look = catalog::lookup(store, state_of(w), l.a, out);
-    match look {
+    match catalog::lookup(store, state_of(w), l.a, out) {
         Look::Found { position, length } => {
             let place = l.b == 1 && position == l.c && length == l.d;
             let bytes = sum::of_front(0, out, length) == l.e;
@@ -189,17 +182,15 @@ pub fn lookup(w: World, l: Line, store: &[u8], out: &mut [u8]) -> World {
 }
 
 fn end_of(kind: u64, id: u64) -> End {
-    if kind == 1 {
-        return End::Included(id);
+    match kind {
+        1 => End::Included(id),
+        2 => End::Excluded(id),
+        _ => End::Open,
     }
-    if kind == 2 {
-        return End::Excluded(id);
-    }
-    End::Open
 }
 
 // What a scan has handed over so far.
-#[derive(Drop)]
+#[derive(Clone, Copy)]
 struct Seen {
     cursor: u64,
     count: u64,
@@ -208,50 +199,48 @@ struct Seen {
 }
 
 fn one_step(seen: Seen, store: &[u8], state: State, range: Range, out: &mut [u8]) -> Seen {
-    let stepped = scanning::step(store, state, range, seen.cursor, out);
-    let mut after = seen;
-    match stepped {
-        Stepped::Entry { id, length, cursor } => {
-            after.cursor = cursor;
-            after.count = one_more(seen.count);
-            after.sum = sum::of_front(sum::of_number(seen.sum, id), out, length);
-        }
-        Stepped::End { cursor: _ } => {
-            after.ended = true;
-        }
-        Stepped::Refused(_) => {
-            after.ended = true;
-            after.count = 1000000000;
-        }
+    match scanning::step(store, state, range, seen.cursor, out) {
+        Stepped::Entry { id, length, cursor } => Seen {
+            cursor,
+            count: one_more(seen.count),
+            sum: sum::of_front(sum::of_number(seen.sum, id), out, length),
+            ..seen
+        },
+        Stepped::End { .. } => Seen {
+            ended: true,
+            ..seen
+        },
+        Stepped::Refused(_) => Seen {
+            ended: true,
+            count: 1000000000,
+            ..seen
+        },
     }
-    after
 }
 
 fn all_steps(cursor: u64, store: &[u8], state: State, range: Range, out: &mut [u8]) -> Seen {
     let mut seen = Seen {
-        cursor: cursor,
+        cursor,
         count: 0,
         sum: 0,
         ended: false,
     };
-    let mut turns: u64 = 1000;
-    while 0 < turns && !seen.ended {
+    for _ in 0..1000 {
+        if seen.ended {
+            break;
+        }
         seen = one_step(seen, store, state, range, out);
-        turns -= 1;
     }
     seen
 }
 
 pub fn scan(w: World, l: Line, store: &[u8], out: &mut [u8]) -> World {
-    let low = end_of(l.a, l.b);
-    let high = end_of(l.c, l.d);
     let range = Range {
-        lower: low,
-        upper: high,
+        lower: end_of(l.a, l.b),
+        upper: end_of(l.c, l.d),
     };
     let state = state_of(w);
-    let started = scanning::scan(store, state, range);
-    match started {
+    match scanning::scan(store, state, range) {
         Started::At { cursor } => {
             let seen = all_steps(cursor, store, state, range, out);
             judged(w, seen.count == l.e && seen.sum == l.f)
@@ -269,8 +258,7 @@ pub fn recover(w: World, l: Line, store: &[u8]) -> World {
     if 65536 < length {
         return judged(w, false);
     }
-    let recovered = catalog::recover(store, length + excess, 0);
-    match recovered {
+    match catalog::recover(store, length + excess, 0) {
         Recovered::At {
             state,
             excess: cut,
@@ -289,10 +277,11 @@ pub fn recover(w: World, l: Line, store: &[u8]) -> World {
 pub fn sequence(w: World, l: Line, words: &mut [u64; 64]) -> World {
     *words = [0; 64];
     let s = IdSequence::new(l.a);
-    let mut after = w;
-    after.start = s.start;
-    after.after = s.after;
-    after
+    World {
+        start: s.start,
+        after: s.after,
+        ..w
+    }
 }
 
 pub fn note(w: World, l: Line, words: &mut [u64; 64]) -> World {
@@ -300,12 +289,13 @@ pub fn note(w: World, l: Line, words: &mut [u64; 64]) -> World {
         start: w.start,
         after: w.after,
     };
-    let noted = s.note(words, l.a);
-    match noted {
+    match s.note(words, l.a) {
         Noted::At(n) => {
-            let mut after = w;
-            after.start = n.start;
-            after.after = n.after;
+            let after = World {
+                start: n.start,
+                after: n.after,
+                ..w
+            };
             let complete = n.complete();
             let numbers = n.start == l.c && n.after == l.d;
             judged(after, numbers && complete == (l.b == 1))
@@ -322,8 +312,7 @@ pub fn take(w: World, l: Line) -> World {
         next: l.a,
         ceiling: 0xffff_ffff_ffff_ffff,
     };
-    let taken = before.take();
-    match taken {
+    match before.take() {
         Taken::Id { id, state } => judged(w, id == l.b && state.next == l.c),
         Taken::Refused(_) => judged(w, false),
     }

@@ -2,14 +2,11 @@
 use crate::parts::{number, part};
 use crate::say;
 use page::Page;
+use std::io;
 
 // Makes every byte of a store this one.
 pub fn fill(store: &mut [u8], b: u8) {
-    let mut i: usize = 0;
-    while i < store.len() {
-        store[i] = b;
-        i += 1;
-    }
+    store.fill(b);
 }
 
 // Writes an entry from page p on, if its pages fit.
@@ -31,13 +28,11 @@ fn put(store: &mut [u8], p: usize, id: u64, bytes: &[u8]) {
 // "put PAGE ID WORD": an entry whose data is a word.
 pub fn put_word(store: &mut [u8], line: &[u8]) {
     let word = part(line, b' ', 3);
-    let from = word.from;
-    let end = word.end;
     put(
         store,
         number(line, 1) as usize,
         number(line, 2),
-        &line[from..end],
+        &line[word.from..word.end],
     );
 }
 
@@ -48,28 +43,22 @@ fn mixed(id: u64, i: usize) -> u8 {
 
 // The bytes are those of the long data of an id from a place on.
 pub fn is_mixed(bytes: &[u8], id: u64, from: usize) -> bool {
-    let mut i = 0;
-    while i < bytes.len() {
-        if bytes[i] != mixed(id, std::num::wrapping_add_usize(from, i)) {
-            return false;
-        }
-        i += 1;
-    }
-    true
+    bytes
+        .iter()
+        .enumerate()
+        .all(|(i, byte)| *byte == mixed(id, from.wrapping_add(i)))
 }
 
 // The long data of an id.
 pub fn mix(bytes: &mut [u8], id: u64) {
-    let mut i = 0;
-    while i < bytes.len() {
-        bytes[i] = mixed(id, i);
-        i += 1;
+    for (i, byte) in bytes.iter_mut().enumerate() {
+        *byte = mixed(id, i);
     }
 }
 
 // "mixed PAGE ID N": an entry with n bytes of its id's long data, at most 4,096.
 pub fn put_mixed(store: &mut [u8], line: &[u8]) {
-    let mut bytes = io::buffer();
+    let mut bytes = [0; 4096];
     let id = number(line, 2);
     mix(&mut bytes, id);
     put_front(store, line, id, &bytes);
@@ -91,14 +80,13 @@ pub fn put_byte(store: &mut [u8], line: &[u8]) {
 }
 
 // Says the first n bytes of an output, or of long ones only whether they are as written for the id.
-pub fn handed(out: &[u8], n: usize, id: u64) {
+pub fn handed(rt: &impl Print, out: &[u8], n: usize, id: u64) -> io::Result<()> {
     if out.len() < n {
-        return;
+        return Ok(());
     }
     let bytes = &out[..n];
     if n <= 16 {
-        say::text(bytes);
-        return;
+        return say::text(rt, bytes);
     }
-    say::either(b"as written|not as written", is_mixed(bytes, id, 0));
+    say::either(rt, b"as written|not as written", is_mixed(bytes, id, 0))
 }

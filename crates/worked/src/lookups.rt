@@ -3,9 +3,11 @@ use crate::building::handed;
 use crate::parts::number;
 use crate::{say, script};
 use catalog::{Look, State};
+use std::io;
 
-pub fn run() {
+pub fn run(rt: &impl Print) -> io::Result<()> {
     script::run(
+        rt,
         b"put 0 1 one
 put 1 2 two
 put 2 3 three
@@ -56,9 +58,10 @@ title 2 on page 0, 5 on page 3, 9 on pages 5 and 6, idle pages between and after
 state 8192 0 12
 ids 0 12
 ",
-    );
+    )?;
     // 4294967296 is 2^32, 9223372036854775808 is 2^63.
     script::run(
+        rt,
         b"put 0 1 1
 put 1 4294967296 2^32
 put 2 9223372036854775808 2^63
@@ -78,12 +81,13 @@ title entries of 5, 1, 2 and 4 pages, next 18
 state 12288 0 18
 ids 9 18
 ",
-    );
-    damage();
+    )?;
+    damage(rt)
 }
 
-fn damage() {
+fn damage(rt: &impl Print) -> io::Result<()> {
     script::run(
+        rt,
         b"put 0 1 one
 put 1 2 two
 put 2 3 three
@@ -131,65 +135,60 @@ within 4
 within 5
 within 8
 ",
-    );
+    )
 }
 
 // Says an answer in words.
-pub fn answer(look: Look) {
+pub fn answer(rt: &impl Print, look: Look) -> io::Result<()> {
     match look {
         Look::Found { position, length } => {
-            say::two(b"found at #, # bytes", position, length);
+            say::two(rt, b"found at #, # bytes", position, length)
         }
-        Look::Absent { position } => say::one(b"absent at #", position),
-        Look::Refused(refusal) => say::refusal(refusal),
+        Look::Absent { position } => say::one(rt, b"absent at #", position),
+        Look::Refused(refusal) => say::refusal(rt, refusal),
     }
 }
 
 // Looks up one id and says what that gave.
-fn one(store: &[u8], state: State, id: u64) {
-    let mut out = io::buffer();
+fn one(rt: &impl Print, store: &[u8], state: State, id: u64) -> io::Result<()> {
+    let mut out = [0; 4096];
     let look = catalog::lookup(store, state, id, &mut out);
-    say::one(b"  #: ", id);
-    answer(look);
-    if let Look::Found {
-        position: _,
-        length,
-    } = look
-    {
+    say::one(rt, b"  #: ", id)?;
+    answer(rt, look)?;
+    if let Look::Found { length, .. } = look {
         if 0 < length {
-            say::text(b": ");
+            say::text(rt, b": ")?;
         }
-        handed(&out, length as usize, id);
+        handed(rt, &out, length as usize, id)?;
     }
-    say::text(b"\n");
+    say::text(rt, b"\n")
 }
 
 // Looks up every id from one to another.
-fn each(store: &[u8], state: State, from: u64, to: u64) {
-    let mut id = from;
-    while id < to {
-        one(store, state, id);
-        id += 1;
+fn each(rt: &impl Print, store: &[u8], state: State, from: u64, to: u64) -> io::Result<()> {
+    for id in from..to {
+        one(rt, store, state, id)?;
     }
-    one(store, state, id);
+    one(rt, store, state, from.max(to))
 }
 
 // "ids FROM TO".
-pub fn ids(store: &[u8], state: State, line: &[u8]) {
-    each(store, state, number(line, 1), number(line, 2));
+pub fn ids(rt: &impl Print, store: &[u8], state: State, line: &[u8]) -> io::Result<()> {
+    each(rt, store, state, number(line, 1), number(line, 2))
 }
 
 // "within N": looks up 1 with an output of n dots, at most 8.
-pub fn within(store: &[u8], state: State, line: &[u8]) {
-    let mut dots = [46; 8];
+pub fn within(rt: &impl Print, store: &[u8], state: State, line: &[u8]) -> io::Result<()> {
+    let mut dots = [b'.'; 8];
     let n = number(line, 1) as usize;
     if n <= 8 {
-        into(store, state, &mut dots[..n]);
+        into(rt, store, state, &mut dots[..n])?;
     }
+    Ok(())
 }
 
-fn into(store: &[u8], state: State, dots: &mut [u8]) {
-    say::text(b"  ");
-    answer(catalog::lookup(store, state, 1, dots));
-    say::dots(dots);
+fn into(rt: &impl Print, store: &[u8], state: State, dots: &mut [u8]) -> io::Result<()> {
+    say::text(rt, b"  ")?;
+    answer(rt, catalog::lookup(store, state, 1, dots))?;
+    say::dots(rt, dots)
 }

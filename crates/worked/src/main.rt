@@ -1,4 +1,6 @@
 // Runs the worked cases of the rules, and many more, by the real code, and says what each gave.
+#![tactic(auto)]
+
 mod building;
 mod ids;
 mod lookups;
@@ -10,11 +12,13 @@ mod scans;
 mod script;
 mod tails;
 
-fn main() {
-    pages::run();
-    tails::run();
-    lookups::run();
-    scans::run();
-    pushes::run();
-    ids::run();
+use std::io;
+
+fn main(rt: HostRuntime) -> io::Result<()> {
+    pages::run(&rt)?;
+    tails::run(&rt)?;
+    lookups::run(&rt)?;
+    scans::run(&rt)?;
+    pushes::run(&rt)?;
+    ids::run(&rt)
 }

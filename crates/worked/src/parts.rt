@@ -2,7 +2,7 @@
 ghost use Rattle.std.specs.Prelude.{◌<◌, ◌≤◌, length};
 
 // Where a part lies.
-#[derive(Drop)]
+#[derive(Clone, Copy)]
 pub struct Place {
     pub from: usize,
     pub end: usize,
@@ -10,48 +10,47 @@ pub struct Place {
 
 // Where part k lies of words that a byte separates: nothing at their end, if there are fewer.
 pub fn part(words: &[u8], separator: u8, k: usize) -> Place
-    ensures { (result.from ≤ result.end) × (result.end ≤ length words.now) }
+    ensures ordered { result.from ≤ result.end }
+    ensures within { result.end ≤ length words.now }
 {
     let mut from: usize = 0;
     let mut before = k;
-    let mut i: usize = 0;
-    while i < words.len() {
-        if words[i] == separator {
+    for (i, byte) in words.iter().enumerate() {
+        if *byte == separator {
             if before == 0 {
                 return Place { from, end: i };
             }
             before -= 1;
             from = i + 1;
         }
-        i += 1;
     }
+    let end = words.len();
     if 0 < before {
-        return Place { from: i, end: i };
+        return Place { from: end, end };
     }
-    Place { from, end: i }
+    Place { from, end }
 }
 
 // Where the line from a place on ends: at its '\n', or at the script's last byte.
 pub fn line_end(script: &[u8], from: usize) -> usize
     requires { from < length script.now }
-    ensures { (from ≤ result) × (result < length script.now) }
+    ensures after { from ≤ result }
+    ensures within { result < length script.now }
 {
-    let mut i = from;
-    while i + 1 < script.len() {
+    let last = script.len() - 1;
+    for i in from..last {
         if script[i] == b'\n' {
             return i;
         }
-        i += 1;
     }
-    i
+    last
 }
 
 // Byte i of word k of a line, or 0.
 pub fn letter(line: &[u8], k: usize, i: usize) -> u8 {
     let word = part(line, b' ', k);
-    let from = word.from;
-    if i < word.end - from {
-        return line[from + i];
+    if i < word.end - word.from {
+        return line[word.from + i];
     }
     0
 }
@@ -64,19 +63,11 @@ pub fn number(line: &[u8], k: usize) -> u64 {
 // The number that the digits of part k make.
 fn item(words: &[u8], separator: u8, k: usize) -> u64 {
     let place = part(words, separator, k);
-    let from = place.from;
-    let end = place.end;
-    decimal(&words[from..end])
+    decimal(&words[place.from..place.end])
 }
 
 fn decimal(digits: &[u8]) -> u64 {
-    let mut n: u64 = 0;
-    let mut i: usize = 0;
-    while i < digits.len() {
-        n = with_digit(n, digits[i]);
-        i += 1;
-    }
-    n
+    digits.iter().fold(0, |n, digit| with_digit(n, *digit))
 }
 
 // A number with one digit more: another byte leaves it, and so does a digit for which there is no room.
@@ -96,12 +87,5 @@ fn with_digit(n: u64, byte: u8) -> u64 {
 
 // Every byte is this one.
 pub fn is_all(bytes: &[u8], b: u8) -> bool {
-    let mut i: usize = 0;
-    while i < bytes.len() {
-        if bytes[i] != b {
-            return false;
-        }
-        i += 1;
-    }
-    true
+    bytes.iter().all(|byte| *byte == b)
 }

@@ -10,9 +10,11 @@ use crate::{building, say, script};
 use catalog::{Look, State};
 use page::Page;
 use pushing::{Pushed, Reason};
+use std::io;
 
-pub fn run() {
+pub fn run(rt: &impl Print) -> io::Result<()> {
     script::run(
+        rt,
         b"name push (1, hello), (2, none) from the fresh state
 entries 0 0 hello 1 2 - 5 5 -
 hex 0
@@ -127,40 +129,48 @@ check 4096 3500   cut at byte 3500
 check 4096 2047   cut at byte 2047
 check 4096 1023   cut at byte 1023
 ",
-    );
-    thousand();
+    )?;
+    thousand(rt)
 }
 
 // Says whether no byte from a place on was touched.
-fn rest(store: &[u8], from: usize) {
+fn rest(rt: &impl Print, store: &[u8], from: usize) -> io::Result<()> {
     if from <= store.len() {
         say::either(
+            rt,
             b"  no byte after that is touched\n|  bytes after that are touched\n",
             is_all(&store[from..], 0xff),
-        );
+        )?;
     }
+    Ok(())
 }
 
 // Says what a push answered.
-fn outcome(pushed: Pushed) {
-    let reason = pushed.reason;
-    say::one(b"# written, ", pushed.written);
-    why(reason);
-    say::state(b"; state #, #, #, #\n", pushed.state);
+fn outcome(rt: &impl Print, pushed: Pushed) -> io::Result<()> {
+    say::one(rt, b"# written, ", pushed.written)?;
+    why(rt, pushed.reason)?;
+    say::state(rt, b"; state #, #, #, #\n", pushed.state)
 }
 
-fn why(reason: Reason) {
+fn why(rt: &impl Print, reason: Reason) -> io::Result<()> {
     match reason {
-        Reason::None => say::text(b"no refusal"),
-        Reason::Refused(refusal) => say::refusal(refusal),
+        Reason::None => say::text(rt, b"no refusal"),
+        Reason::Refused(refusal) => say::refusal(rt, refusal),
     }
 }
 
 // Pushes onto a store, says what that answered, and hands on the state.
-fn further(store: &mut [u8], state: State, ids: &[u64], ends: &[u64], bytes: &[u8]) -> State {
+fn further(
+    rt: &impl Print,
+    store: &mut [u8],
+    state: State,
+    ids: &[u64],
+    ends: &[u64],
+    bytes: &[u8],
+) -> io::Result<State> {
     let pushed = pushing::push(store, state, ids, ends, bytes);
-    outcome(pushed);
-    pushed.state
+    outcome(rt, pushed)?;
+    Ok(pushed.state)
 }
 
 // How many of the three words from k on are numbers: "-" is none.
@@ -168,27 +178,31 @@ fn count(line: &[u8], k: usize) -> usize
     requires { k < 8 }
     ensures { result ≤ 3 }
 {
-    let mut j: usize = 0;
-    while j < 3 {
+    for j in 0..3 {
         if letter(line, k + j, 0) == b'-' {
             return j;
         }
-        j += 1;
     }
-    j
+    3
 }
 
 // The same for the batch of a line: words 4 to 6 are its ids, and 7 to 9 its ends.
-fn push_few(store: &mut [u8], state: State, line: &[u8], bytes: &[u8]) -> State {
+fn push_few(
+    rt: &impl Print,
+    store: &mut [u8],
+    state: State,
+    line: &[u8],
+    bytes: &[u8],
+) -> io::Result<State> {
     let ids = [number(line, 4), number(line, 5), number(line, 6)];
     let ends = [number(line, 7), number(line, 8), number(line, 9)];
     let i = count(line, 4);
     let e = count(line, 7);
-    further(store, state, &ids[..i], &ends[..e], bytes)
+    further(rt, store, state, &ids[..i], &ends[..e], bytes)
 }
 
 // "entries LENGTH LAST DATA IDS ENDS": pushes onto four pages that hold nothing yet, from a state.
-pub fn entries(store: &mut [u8], line: &[u8]) -> State {
+pub fn entries(rt: &impl Print, store: &mut [u8], line: &[u8]) -> io::Result<State> {
     let state = State {
         length: number(line, 1),
         last: number(line, 2),
@@ -196,70 +210,82 @@ pub fn entries(store: &mut [u8], line: &[u8]) -> State {
         ceiling: 1,
     };
     building::fill(store, 255);
-    words(store, 4096, state, line)
+    words(rt, store, 4096, state, line)
 }
 
 // "Word SIZE - DATA IDS ENDS": pushes onto what is there, with short data.
-pub fn word(store: &mut [u8], state: State, line: &[u8]) -> State {
-    words(store, number(line, 1) as usize, state, line)
+pub fn word(rt: &impl Print, store: &mut [u8], state: State, line: &[u8]) -> io::Result<State> {
+    words(rt, store, number(line, 1) as usize, state, line)
 }
 
 // Pushes the data that is word 3 of a line.
-fn words(store: &mut [u8], size: usize, state: State, line: &[u8]) -> State {
+fn words(
+    rt: &impl Print,
+    store: &mut [u8],
+    size: usize,
+    state: State,
+    line: &[u8],
+) -> io::Result<State> {
     let data = part(line, b' ', 3);
-    let from = data.from;
-    let end = data.end;
-    onto(store, size, state, line, &line[from..end])
+    onto(rt, store, size, state, line, &line[data.from..data.end])
 }
 
 // "long SIZE - - IDS ENDS": pushes onto what is there, with long data.
-pub fn long(store: &mut [u8], state: State, line: &[u8]) -> State {
-    let mut bytes = io::buffer();
+pub fn long(rt: &impl Print, store: &mut [u8], state: State, line: &[u8]) -> io::Result<State> {
+    let mut bytes = [0; 4096];
     building::mix(&mut bytes, 0);
-    onto(store, number(line, 1) as usize, state, line, &bytes)
+    onto(rt, store, number(line, 1) as usize, state, line, &bytes)
 }
 
 // Pushes onto a store's first bytes.
-fn onto(store: &mut [u8], size: usize, state: State, line: &[u8], bytes: &[u8]) -> State {
+fn onto(
+    rt: &impl Print,
+    store: &mut [u8],
+    size: usize,
+    state: State,
+    line: &[u8],
+    bytes: &[u8],
+) -> io::Result<State> {
     if size <= store.len() {
-        return push_few(&mut store[..size], state, line, bytes);
+        return push_few(rt, &mut store[..size], state, line, bytes);
     }
-    state
+    Ok(state)
 }
 
-pub fn ask(store: &[u8], state: State, what: u8, line: &[u8]) {
+pub fn ask(rt: &impl Print, store: &[u8], state: State, what: u8, line: &[u8]) -> io::Result<()> {
     match what {
-        b'h' => hex(store, number(line, 1) as usize),
-        b'u' => rest(store, state.length as usize),
-        b'q' => query(store, state, number(line, 1)),
-        b'v' => verify(store, state, number(line, 1)),
-        b'y' => yields(store, state),
-        _ => {}
+        b'h' => hex(rt, store, number(line, 1) as usize),
+        b'u' => rest(rt, store, state.length as usize),
+        b'q' => query(rt, store, state, number(line, 1)),
+        b'v' => verify(rt, store, state, number(line, 1)),
+        b'y' => yields(rt, store, state),
+        _ => Ok(()),
     }
 }
 
 // "hex PAGE".
-fn hex(store: &[u8], p: usize) {
+fn hex(rt: &impl Print, store: &[u8], p: usize) -> io::Result<()> {
     let pages = Page::count(store);
     if p < pages {
         let from = p * Page::SIZE;
         let end = from + Page::SIZE;
-        say::one(b"  page #: ", p as u64);
-        show(&store[from..end]);
+        say::one(rt, b"  page #: ", p as u64)?;
+        show(rt, &store[from..end])?;
     }
+    Ok(())
 }
 
 // "query ID": where the id is, or would be.
-fn query(store: &[u8], state: State, id: u64) {
-    say::one(b"  a lookup of #: ", id);
-    answer(catalog::find(store, state, id));
-    say::text(b"\n");
+fn query(rt: &impl Print, store: &[u8], state: State, id: u64) -> io::Result<()> {
+    say::one(rt, b"  a lookup of #: ", id)?;
+    answer(rt, catalog::find(store, state, id))?;
+    say::text(rt, b"\n")
 }
 
 // "yields": what recovery says then.
-fn yields(store: &[u8], state: State) {
-    say::text(b"  recovery then: ");
-    say_recovered(catalog::recover(store, state.length, 0));
+fn yields(rt: &impl Print, store: &[u8], state: State) -> io::Result<()> {
+    say::text(rt, b"  recovery then: ")?;
+    say_recovered(rt, catalog::recover(store, state.length, 0))
 }
 
 // An answer's bytes are so many of the long data from a place on.
@@ -275,51 +301,37 @@ fn is_data(out: &[u8], length: u64, from: usize, n: usize) -> bool {
 
 // A lookup of the id hands over n bytes of the long data from a place on.
 fn reads_back(store: &[u8], state: State, id: u64, from: usize, n: usize) -> bool {
-    let mut out = io::buffer();
-    let look = catalog::lookup(store, state, id, &mut out);
-    match look {
-        Look::Found {
-            position: _,
-            length,
-        } => is_data(&out, length, from, n),
-        Look::Absent { position: _ } => false,
-        Look::Refused(_) => false,
+    let mut out = [0; 4096];
+    match catalog::lookup(store, state, id, &mut out) {
+        Look::Found { length, .. } => is_data(&out, length, from, n),
+        Look::Absent { .. } | Look::Refused(_) => false,
     }
 }
 
 // Each of the 1,000 entries reads back.
 fn thousand_back(store: &[u8], state: State) -> bool {
-    let mut j: usize = 0;
-    while j < 1000 {
-        if !reads_back(store, state, j as u64 + 1, j, 1) {
-            return false;
-        }
-        j += 1;
-    }
-    true
+    (0..1000).all(|j: usize| reads_back(store, state, j as u64 + 1, j, 1))
 }
 
-fn say_back(back: bool) {
+fn say_back(rt: &impl Print, back: bool) -> io::Result<()> {
     say::either(
+        rt,
         b"  the data reads back the same\n|  the data does not read back\n",
         back,
-    );
+    )
 }
 
 // The state once its next id is taken, or the same if none is left.
 fn taken(state: State) -> State {
     match state.take() {
-        catalog::Taken::Id {
-            id: _,
-            state: after,
-        } => after,
+        catalog::Taken::Id { state: after, .. } => after,
         catalog::Taken::Refused(_) => state,
     }
 }
 
 // "verify N": id 1 has n bytes of the long data, once it is taken.
-fn verify(store: &[u8], state: State, n: u64) {
-    say_back(reads_back(store, taken(state), 1, 0, n as usize));
+fn verify(rt: &impl Print, store: &[u8], state: State, n: u64) -> io::Result<()> {
+    say_back(rt, reads_back(store, taken(state), 1, 0, n as usize))
 }
 
 fn numbers() -> [u64; 1000]
@@ -336,32 +348,30 @@ fn large_store() -> [u8; 1048576]
 
 // Fills a list with 1, 2, 3 and so on.
 fn ascend(list: &mut [u64]) {
-    let mut j: usize = 0;
-    while j < list.len() {
-        list[j] = j as u64 + 1;
-        j += 1;
+    for (j, number) in list.iter_mut().enumerate() {
+        *number = j as u64 + 1;
     }
 }
 
 // A batch of 1,000 entries with 1 byte each: entry j ends after j bytes.
-fn thousand() {
+fn thousand(rt: &impl Print) -> io::Result<()> {
     let mut store = large_store();
     let mut ids = numbers();
-    let mut bytes = io::buffer();
+    let mut bytes = [0; 4096];
     ascend(&mut ids);
     building::mix(&mut bytes, 0);
-    push_thousand(&mut store, &ids, &bytes);
+    push_thousand(rt, &mut store, &ids, &bytes)
 }
 
-fn push_thousand(store: &mut [u8], ids: &[u64], bytes: &[u8]) {
-    say::text(b"push 1 to 1000 with 1 byte each: ");
-    let state = further(store, State::fresh(), ids, ids, bytes);
-    rest(store, state.length as usize);
+fn push_thousand(rt: &impl Print, store: &mut [u8], ids: &[u64], bytes: &[u8]) -> io::Result<()> {
+    say::text(rt, b"push 1 to 1000 with 1 byte each: ")?;
+    let state = further(rt, store, State::fresh(), ids, ids, bytes)?;
+    rest(rt, store, state.length as usize)?;
     let all = State {
         length: state.length,
         last: state.last,
         next: 1001,
         ceiling: 1001,
     };
-    say_back(thousand_back(store, all));
+    say_back(rt, thousand_back(store, all))
 }

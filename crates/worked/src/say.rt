@@ -1,102 +1,97 @@
 // Words and numbers on standard output.
 use crate::parts::part;
-use libc::STDOUT_FILENO;
 use catalog::State;
 use refusal::Refusal;
+use std::io;
 
-pub fn text(words: &[u8]) {
-    io::write_all(STDOUT_FILENO, words);
+pub fn text(rt: &impl Print, words: &[u8]) -> io::Result<()> {
+    rt.write_all(words)
 }
 
-pub fn number(n: u64) {
-    io::print_decimal(STDOUT_FILENO, n);
+pub fn number(rt: &impl Print, n: u64) -> io::Result<()> {
+    rt.print(n)
 }
 
 // Part k of words that a byte separates.
-fn piece(words: &[u8], separator: u8, k: usize) {
-    let p = part(words, separator, k);
-    let from = p.from;
-    let end = p.end;
-    text(&words[from..end]);
+fn piece(rt: &impl Print, words: &[u8], separator: u8, k: usize) -> io::Result<()> {
+    let place = part(words, separator, k);
+    text(rt, &words[place.from..place.end])
 }
 
 // A script's line from word k on.
-pub fn told(line: &[u8], k: usize) {
+pub fn told(rt: &impl Print, line: &[u8], k: usize) -> io::Result<()> {
     let word = part(line, b' ', k);
-    let from = word.from;
-    text(&line[from..]);
+    text(rt, &line[word.from..])
 }
 
 // Wording k of several that '|' separates.
-pub fn wording(words: &[u8], k: usize) {
-    piece(words, b'|', k);
+pub fn wording(rt: &impl Print, words: &[u8], k: usize) -> io::Result<()> {
+    piece(rt, words, b'|', k)
 }
 
 // The first of two wordings if it holds, else the second.
-pub fn either(words: &[u8], holds: bool) {
+pub fn either(rt: &impl Print, words: &[u8], holds: bool) -> io::Result<()> {
     if holds {
-        wording(words, 0);
+        wording(rt, words, 0)
     } else {
-        wording(words, 1);
+        wording(rt, words, 1)
     }
 }
 
 // Words with a number in place of their '#'.
-pub fn one(words: &[u8], n: u64) {
-    piece(words, b'#', 0);
-    number(n);
-    piece(words, b'#', 1);
+pub fn one(rt: &impl Print, words: &[u8], n: u64) -> io::Result<()> {
+    piece(rt, words, b'#', 0)?;
+    number(rt, n)?;
+    piece(rt, words, b'#', 1)
 }
 
 // Words with two numbers in place of their '#'.
-pub fn two(words: &[u8], a: u64, b: u64) {
-    piece(words, b'#', 0);
-    number(a);
-    piece(words, b'#', 1);
-    number(b);
-    piece(words, b'#', 2);
+pub fn two(rt: &impl Print, words: &[u8], a: u64, b: u64) -> io::Result<()> {
+    piece(rt, words, b'#', 0)?;
+    number(rt, a)?;
+    piece(rt, words, b'#', 1)?;
+    number(rt, b)?;
+    piece(rt, words, b'#', 2)
 }
 
 // Words with a state's numbers in place of their '#': length, last, next and ceiling.
-pub fn state(words: &[u8], s: State) {
-    two(words, s.length, s.last);
-    number(s.next);
-    piece(words, b'#', 3);
-    number(s.ceiling);
-    piece(words, b'#', 4);
+pub fn state(rt: &impl Print, words: &[u8], s: State) -> io::Result<()> {
+    two(rt, words, s.length, s.last)?;
+    number(rt, s.next)?;
+    piece(rt, words, b'#', 3)?;
+    number(rt, s.ceiling)?;
+    piece(rt, words, b'#', 4)
 }
 
 // Bytes in hexadecimal digits, with a space after each.
-pub fn bytes(values: &[u8]) {
-    let mut i: usize = 0;
-    while i < values.len() {
-        io::print_hex(STDOUT_FILENO, values[i] as u64, 2);
-        text(b" ");
-        i += 1;
+pub fn bytes(rt: &impl Print, values: &[u8]) -> io::Result<()> {
+    for value in values {
+        print!(rt; "{value:02x} ")?;
     }
+    Ok(())
 }
 
 // A refusal as the rules name it: its number, and the page or length.
-pub fn refusal(r: Refusal) {
+pub fn refusal(rt: &impl Print, r: Refusal) -> io::Result<()> {
     let n = r.number();
-    one(b"refusal #", n);
-    named(n, r.value());
+    one(rt, b"refusal #", n)?;
+    named(rt, n, r.value())
 }
 
 // The page or the length that the refusal of a number names.
-fn named(n: u64, value: u64) {
+fn named(rt: &impl Print, n: u64, value: u64) -> io::Result<()> {
     match n {
-        5 | 6 | 7 | 8 | 14 | 15 => one(b" at page #", value),
-        10 => one(b", needs #", value),
-        _ => {}
+        5 | 6 | 7 | 8 | 14 | 15 => one(rt, b" at page #", value),
+        10 => one(rt, b", needs #", value),
+        _ => Ok(()),
     }
 }
 
 // What an output that held dots holds now, if it is short, and the line's end.
-pub fn dots(out: &[u8]) {
+pub fn dots(rt: &impl Print, out: &[u8]) -> io::Result<()> {
     if out.len() <= 8 {
-        text(b": ");
-        text(out);
+        text(rt, b": ")?;
+        text(rt, out)?;
     }
-    text(b"\n");
+    text(rt, b"\n")
 }

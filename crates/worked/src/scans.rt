@@ -4,10 +4,12 @@ use crate::parts::{letter, number};
 use crate::{say, script};
 use catalog::State;
 use scanning::{End, Range, Started, Stepped};
+use std::io;
 
 // Ids 2, 4 on three pages, an idle page, 6 and 9: seven pages.
-pub fn run() {
+pub fn run(rt: &impl Print) -> io::Result<()> {
     script::run(
+        rt,
         b"put 0 2 two
 mixed 1 4 2992
 put 5 6 six
@@ -87,7 +89,7 @@ byte 6147 253
 range - -
 at 4096 - <=4
 ",
-    );
+    )
 }
 
 // The end that word k says: "-" is open, and "=" makes it included.
@@ -109,123 +111,117 @@ fn range_at(line: &[u8]) -> Range {
 }
 
 // Says an end in one of three wordings: open, included or excluded, the latter two before its id.
-fn end(e: End, wordings: &[u8]) {
+fn end(rt: &impl Print, e: End, wordings: &[u8]) -> io::Result<()> {
     match e {
-        End::Open => say::wording(wordings, 0),
+        End::Open => say::wording(rt, wordings, 0),
         End::Included(id) => {
-            say::wording(wordings, 1);
-            say::number(id);
+            say::wording(rt, wordings, 1)?;
+            say::number(rt, id)
         }
         End::Excluded(id) => {
-            say::wording(wordings, 2);
-            say::number(id);
+            say::wording(rt, wordings, 2)?;
+            say::number(rt, id)
         }
     }
 }
 
 // Says what a step answered; `out` is the output after it.
-fn answer(stepped: Stepped, out: &[u8]) {
+fn answer(rt: &impl Print, stepped: Stepped, out: &[u8]) -> io::Result<()> {
     match stepped {
         Stepped::Entry { id, length, cursor } => {
-            say::one(b"# (", id);
+            say::one(rt, b"# (", id)?;
             if 16 < length {
-                say::one(b"# bytes ", length);
+                say::one(rt, b"# bytes ", length)?;
             }
-            handed(out, length as usize, id);
-            say::one(b") then #", cursor);
+            handed(rt, out, length as usize, id)?;
+            say::one(rt, b") then #", cursor)
         }
-        Stepped::End { cursor } => say::one(b"end at #", cursor),
-        Stepped::Refused(refusal) => say::refusal(refusal),
+        Stepped::End { cursor } => say::one(rt, b"end at #", cursor),
+        Stepped::Refused(refusal) => say::refusal(rt, refusal),
     }
 }
 
 // Takes a step into an output and says what that gave.
-fn told(store: &[u8], s: State, r: Range, cursor: u64, out: &mut [u8]) -> Stepped {
+fn told(
+    rt: &impl Print,
+    store: &[u8],
+    s: State,
+    r: Range,
+    cursor: u64,
+    out: &mut [u8],
+) -> io::Result<Stepped> {
     let stepped = scanning::step(store, s, r, cursor, out);
-    answer(stepped, out);
-    stepped
+    answer(rt, stepped, out)?;
+    Ok(stepped)
 }
 
 // The same, with an output of 4,096 bytes.
-fn roomy(store: &[u8], s: State, r: Range, cursor: u64) -> Stepped {
-    let mut out = io::buffer();
-    told(store, s, r, cursor, &mut out)
+fn roomy(rt: &impl Print, store: &[u8], s: State, r: Range, cursor: u64) -> io::Result<Stepped> {
+    let mut out = [0; 4096];
+    told(rt, store, s, r, cursor, &mut out)
 }
 
 // The same, after another.
-fn then(store: &[u8], s: State, r: Range, cursor: u64) -> Stepped {
-    say::text(b"; ");
-    roomy(store, s, r, cursor)
+fn then(rt: &impl Print, store: &[u8], s: State, r: Range, cursor: u64) -> io::Result<Stepped> {
+    say::text(rt, b"; ")?;
+    roomy(rt, store, s, r, cursor)
 }
 
 // Takes steps from a cursor to the end, or to a refusal.
-fn steps(store: &[u8], s: State, r: Range, from: u64) {
-    let mut cursor = from;
-    let mut turns: u64 = 0;
-    while turns < 9 {
-        let stepped = then(store, s, r, cursor);
-        match stepped {
-            Stepped::Entry {
-                id: _,
-                length: _,
-                cursor: after,
-            } => {
-                cursor = after;
-            }
-            Stepped::End { cursor: _ } => {
-                return;
-            }
-            Stepped::Refused(_) => {
-                return;
-            }
+fn steps(rt: &impl Print, store: &[u8], s: State, r: Range, from: u64) -> io::Result<()> {
+    let mut at = from;
+    for _ in 0..9 {
+        match then(rt, store, s, r, at)? {
+            Stepped::Entry { cursor, .. } => at = cursor,
+            Stepped::End { .. } | Stepped::Refused(_) => return Ok(()),
         }
-        turns += 1;
     }
+    Ok(())
 }
 
 // "range LOWER UPPER": runs a whole scan and says what that gave.
-pub fn range(store: &[u8], s: State, line: &[u8]) {
+pub fn range(rt: &impl Print, store: &[u8], s: State, line: &[u8]) -> io::Result<()> {
     let lower = end_at(line, 1);
     let upper = end_at(line, 2);
-    end(lower, b"  from the first|  from |  above ");
-    end(upper, b" to the last| to | below ");
-    scan(store, s, Range { lower, upper });
+    end(rt, lower, b"  from the first|  from |  above ")?;
+    end(rt, upper, b" to the last| to | below ")?;
+    scan(rt, store, s, Range { lower, upper })
 }
 
-fn scan(store: &[u8], s: State, r: Range) {
-    let started = scanning::scan(store, s, r);
-    match started {
+fn scan(rt: &impl Print, store: &[u8], s: State, r: Range) -> io::Result<()> {
+    match scanning::scan(store, s, r) {
         Started::At { cursor } => {
-            say::one(b": at #", cursor);
-            steps(store, s, r, cursor);
+            say::one(rt, b": at #", cursor)?;
+            steps(rt, store, s, r, cursor)?;
         }
         Started::Refused(refusal) => {
-            say::text(b": ");
-            say::refusal(refusal);
+            say::text(rt, b": ")?;
+            say::refusal(rt, refusal)?;
         }
     }
-    say::text(b"\n");
+    say::text(rt, b"\n")
 }
 
 // "at CURSOR LOWER UPPER": takes one step from a cursor.
-pub fn at(store: &[u8], s: State, line: &[u8]) {
+pub fn at(rt: &impl Print, store: &[u8], s: State, line: &[u8]) -> io::Result<()> {
     let cursor = number(line, 1);
-    say::one(b"  from #: ", cursor);
-    roomy(store, s, range_at(line), cursor);
-    say::text(b"\n");
+    say::one(rt, b"  from #: ", cursor)?;
+    roomy(rt, store, s, range_at(line), cursor)?;
+    say::text(rt, b"\n")
 }
 
 // "out N LOWER UPPER CURSOR": takes a step into n dots, at most 4,096.
-pub fn out(store: &[u8], s: State, line: &[u8]) {
-    let mut dots = [46; 4096];
+pub fn out(rt: &impl Print, store: &[u8], s: State, line: &[u8]) -> io::Result<()> {
+    let mut dots = [b'.'; 4096];
     let n = number(line, 1) as usize;
     if n <= 4096 {
-        into(store, s, line, &mut dots[..n]);
+        into(rt, store, s, line, &mut dots[..n])?;
     }
+    Ok(())
 }
 
-fn into(store: &[u8], s: State, line: &[u8], dots: &mut [u8]) {
-    say::text(b"  ");
-    told(store, s, range_at(line), number(line, 4), dots);
-    say::dots(dots);
+fn into(rt: &impl Print, store: &[u8], s: State, line: &[u8], dots: &mut [u8]) -> io::Result<()> {
+    say::text(rt, b"  ")?;
+    told(rt, store, s, range_at(line), number(line, 4), dots)?;
+    say::dots(rt, dots)
 }

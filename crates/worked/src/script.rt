@@ -3,37 +3,39 @@
 use crate::parts::{letter, line_end, number};
 use crate::{building, ids, lookups, pushes, say, scans, tails};
 use catalog::State;
+use std::io;
 
-pub fn run(script: &[u8]) {
-    let mut store = io::large_buffer();
-    lines(&mut store, script);
+pub fn run(rt: &impl Print, script: &[u8]) -> io::Result<()> {
+    let mut store = [0; 65536];
+    lines(rt, &mut store, script)
 }
 
 // Each line works on the state that the last "state", push, take, raising or recovery left.
-fn lines(store: &mut [u8], script: &[u8]) {
+fn lines(rt: &impl Print, store: &mut [u8], script: &[u8]) -> io::Result<()> {
     let mut state = State::fresh();
     let mut from: usize = 0;
     while from < script.len() {
         let end = line_end(script, from);
-        state = act(store, state, &script[from..end]);
+        state = act(rt, store, state, &script[from..end])?;
         from = end + 1;
     }
+    Ok(())
 }
 
 // Does what the first letter of a line says, and hands on the state.
-fn act(store: &mut [u8], state: State, line: &[u8]) -> State {
+fn act(rt: &impl Print, store: &mut [u8], state: State, line: &[u8]) -> io::Result<State> {
     let what = letter(line, 0, 0);
     change(store, what, line);
-    ask(store, state, what, line);
+    ask(rt, store, state, what, line)?;
     match what {
-        b's' => stated(line),
-        b'e' => pushes::entries(store, line),
-        b'l' => pushes::long(store, state, line),
-        b'W' => pushes::word(store, state, line),
-        b'T' => tails::taken(state),
-        b'R' => tails::raised(state, line),
-        b'O' => tails::opened(store, state, line),
-        _ => state,
+        b's' => Ok(stated(line)),
+        b'e' => pushes::entries(rt, store, line),
+        b'l' => pushes::long(rt, store, state, line),
+        b'W' => pushes::word(rt, store, state, line),
+        b'T' => tails::taken(rt, state),
+        b'R' => tails::raised(rt, state, line),
+        b'O' => tails::opened(rt, store, state, line),
+        _ => Ok(state),
     }
 }
 
@@ -57,31 +59,31 @@ fn change(store: &mut [u8], what: u8, line: &[u8]) {
     }
 }
 
-fn ask(store: &[u8], state: State, what: u8, line: &[u8]) {
+fn ask(rt: &impl Print, store: &[u8], state: State, what: u8, line: &[u8]) -> io::Result<()> {
     match what {
-        b't' => title(line),
-        b'n' => name(line),
-        b'c' => tails::check(store, line),
-        b'i' => lookups::ids(store, state, line),
-        b'w' => lookups::within(store, state, line),
-        b'r' => scans::range(store, state, line),
-        b'a' => scans::at(store, state, line),
-        b'o' => scans::out(store, state, line),
-        b'g' => ids::grow(line),
-        b'j' => ids::junk(line),
-        b'd' => ids::down(line),
-        _ => pushes::ask(store, state, what, line),
+        b't' => title(rt, line),
+        b'n' => name(rt, line),
+        b'c' => tails::check(rt, store, line),
+        b'i' => lookups::ids(rt, store, state, line),
+        b'w' => lookups::within(rt, store, state, line),
+        b'r' => scans::range(rt, store, state, line),
+        b'a' => scans::at(rt, store, state, line),
+        b'o' => scans::out(rt, store, state, line),
+        b'g' => ids::grow(rt, line),
+        b'j' => ids::junk(rt, line),
+        b'd' => ids::down(rt, line),
+        _ => pushes::ask(rt, store, state, what, line),
     }
 }
 
 // "title WORDS": a line of its own.
-fn title(line: &[u8]) {
-    say::told(line, 1);
-    say::text(b"\n");
+fn title(rt: &impl Print, line: &[u8]) -> io::Result<()> {
+    say::told(rt, line, 1)?;
+    say::text(rt, b"\n")
 }
 
 // "name WORDS": what the next answer is of.
-fn name(line: &[u8]) {
-    say::told(line, 1);
-    say::text(b": ");
+fn name(rt: &impl Print, line: &[u8]) -> io::Result<()> {
+    say::told(rt, line, 1)?;
+    say::text(rt, b": ")
 }

@@ -3,11 +3,13 @@ use crate::parts::number;
 use crate::{say, script};
 use catalog::{Checked, Raised, Recovered, State, Taken};
 use refusal::Refusal;
+use std::io;
 
 // From "byte 0 1" on, ids 1, 2 and 3 on pages 0, 1 to 2, and 3.
-pub fn run() {
-    say::state(b"fresh: state #, #, #, #\n", State::fresh());
+pub fn run(rt: &impl Print) -> io::Result<()> {
+    say::state(rt, b"fresh: state #, #, #, #\n", State::fresh())?;
     script::run(
+        rt,
         b"name take from fresh
 Take
 name the fresh state raised by 0
@@ -177,89 +179,86 @@ byte 3082 255
 byte 3083 255
 check 4096 4096 id 2^64-1
 ",
-    );
+    )
 }
 
 // Says a state, or a refusal that leaves another, and hands on which it is.
-fn told(state: State) -> State {
-    say::state(b"state #, #, #, #\n", state);
-    state
+fn told(rt: &impl Print, state: State) -> io::Result<State> {
+    say::state(rt, b"state #, #, #, #\n", state)?;
+    Ok(state)
 }
 
-fn untold(refusal: Refusal, state: State) -> State {
-    say::refusal(refusal);
-    say::text(b"\n");
-    state
+fn untold(rt: &impl Print, refusal: Refusal, state: State) -> io::Result<State> {
+    say::refusal(rt, refusal)?;
+    say::text(rt, b"\n")?;
+    Ok(state)
 }
 
 // "Take": takes an id, and hands on the state.
-pub fn taken(state: State) -> State {
+pub fn taken(rt: &impl Print, state: State) -> io::Result<State> {
     match state.take() {
         Taken::Id { id, state: after } => {
-            say::one(b"id #, ", id);
-            told(after)
+            say::one(rt, b"id #, ", id)?;
+            told(rt, after)
         }
-        Taken::Refused(r) => untold(r, state),
+        Taken::Refused(r) => untold(rt, r, state),
     }
 }
 
 // "Raise STEP": raises the ceiling, and hands on the state.
-pub fn raised(state: State, line: &[u8]) -> State {
+pub fn raised(rt: &impl Print, state: State, line: &[u8]) -> io::Result<State> {
     match state.raise(number(line, 1)) {
-        Raised::To { state: after } => told(after),
-        Raised::Refused(r) => untold(r, state),
+        Raised::To { state: after } => told(rt, after),
+        Raised::Refused(r) => untold(rt, r, state),
     }
 }
 
 // "Open CEILING": recovers the log of the state's length with a stored ceiling, and hands on the state.
-pub fn opened(store: &[u8], state: State, line: &[u8]) -> State {
+pub fn opened(rt: &impl Print, store: &[u8], state: State, line: &[u8]) -> io::Result<State> {
     match catalog::recover(store, state.length, number(line, 1)) {
-        Recovered::At {
-            state: after,
-            excess: _,
-            dropped: _,
-        } => told(after),
-        Recovered::Refused(r) => untold(r, state),
+        Recovered::At { state: after, .. } => told(rt, after),
+        Recovered::Refused(r) => untold(rt, r, state),
     }
 }
 
-fn say_checked(checked: Checked) {
+fn say_checked(rt: &impl Print, checked: Checked) -> io::Result<()> {
     match checked {
-        Checked::Sound => say::text(b": check sound"),
+        Checked::Sound => say::text(rt, b": check sound"),
         Checked::Refused(r) => {
-            say::text(b": check ");
-            say::refusal(r);
+            say::text(rt, b": check ")?;
+            say::refusal(rt, r)
         }
     }
 }
 
-pub fn say_recovered(recovered: Recovered) {
+pub fn say_recovered(rt: &impl Print, recovered: Recovered) -> io::Result<()> {
     match recovered {
         Recovered::At {
             state,
             excess,
             dropped,
         } => {
-            say::one(b"excess #, ", excess);
-            say::one(b"dropped #, ", dropped);
-            say::state(b"state #, #, #, #", state);
+            say::one(rt, b"excess #, ", excess)?;
+            say::one(rt, b"dropped #, ", dropped)?;
+            say::state(rt, b"state #, #, #, #", state)?;
         }
-        Recovered::Refused(r) => say::refusal(r),
+        Recovered::Refused(r) => say::refusal(rt, r)?,
     }
-    say::text(b"\n");
+    say::text(rt, b"\n")
 }
 
 // "check SIZE LENGTH NAME": what the sound check, and recovery with the stored ceiling 0, say of a log in the store's first bytes.
-pub fn check(store: &[u8], line: &[u8]) {
+pub fn check(rt: &impl Print, store: &[u8], line: &[u8]) -> io::Result<()> {
     let size = number(line, 1) as usize;
-    say::told(line, 3);
+    say::told(rt, line, 3)?;
     if size <= store.len() {
-        check_both(&store[..size], number(line, 2));
+        check_both(rt, &store[..size], number(line, 2))?;
     }
+    Ok(())
 }
 
-fn check_both(store: &[u8], length: u64) {
-    say_checked(catalog::check(store, length));
-    say::text(b"; recovery ");
-    say_recovered(catalog::recover(store, length, 0));
+fn check_both(rt: &impl Print, store: &[u8], length: u64) -> io::Result<()> {
+    say_checked(rt, catalog::check(store, length))?;
+    say::text(rt, b"; recovery ")?;
+    say_recovered(rt, catalog::recover(store, length, 0))
 }
