@@ -1,5 +1,7 @@
 // The functions that C and Rust call: each is a call of the library, with the numbers of its answer.
 // include/awirbesh.h documents them.
+#![tactic(auto)]
+
 mod checking;
 mod reading;
 mod sequences;
