@@ -173,7 +173,8 @@ def main():
         if not check:
             with open(path, "w", encoding="utf-8") as file:
                 file.write(respelled_source(text, change))
-    pages = respelling(old_names(names) | own)
+    known = {change.get(name, name) for name in own}
+    pages = {old: new if new in known else snake(old) for old, new in respelling(old_names(names) | own).items()}
     for path in sorted(glob.glob("docs/**/*.md", recursive=True) + ["README.md"]):
         if os.path.basename(path) == "PORT.md":
             continue
