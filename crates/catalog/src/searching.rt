@@ -133,6 +133,7 @@ fn search(log: &[u8], next: u64, id: u64) -> Look
 }
 
 // Where an id stands in the log, with nothing copied.
+#[tactic(auto, using(crate::proofs::Laws::Lookup::Tests::find_late))]
 pub fn find(store: &[u8], state: State, id: u64) -> Look
     ensures { paper_look result ≡ find_of store.now state id }
 {

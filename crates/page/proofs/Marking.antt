@@ -1,13 +1,17 @@
 -- The cases of a mark, and what a choice by a mark gives in each. Assumes nothing.
-use mathlib.Core.Path.{◌≡◌, refl}
+use mathlib.Core.Path.{◌≡◌, refl, sym, ◌∙◌}
 use mathlib.Core.Bool.{Bool, true, false}
 use mathlib.Core.Logic.{◌⊎◌, inl, inr}
-use Prim.Native.Nat.{ℕ}
+use Prim.Native.Nat.{ℕ, ◌*◌, ◌<◌}
+use mathlib.Core.List.{List}
+use lib.ListN.{get_or}
 use native.Mathlib.Omega.{arith}
 use borrow.Author.Tests.{eq-eqb, ne_eqb, eqb-true, eqb-false}
 use lib.Dec.{eqb}
 use Rattle.refusal.specs.Pick.{pick}
-use Rattle.page.specs.Mark.{by_mark, mark_of}
+use Rattle.page.specs.Size.{page_size, page_count}
+use Rattle.page.specs.Mark.{mark_at, by_mark, mark_of}
+use Rattle.page.proofs.Paging.{mark_byte}
 use Rattle.page.specs.declared.marks.Mark.TheVariants.{Start, Later, Bad}
 
 -- neither 0 nor 1
@@ -31,6 +35,20 @@ module _ {A : Type 0} (m : ℕ) (start later bad : A) where
 
   pub by_bad : IsBad m → by_mark m start later bad ≡ bad
   by_bad b = rw (ne_eqb m 1 b.0, ne_eqb m 0 b.1)
+
+-- what the byte read says of its page
+module _ (log : List ℕ) (p : ℕ) (inside : p < page_count log) where
+  read_mark : mark_at log p ≡ get_or log (p * page_size) 0
+  read_mark = mark_byte log p (p * page_size) (omega arith) refl
+
+  pub read_start : get_or log (p * page_size) 0 ≡ 1 → mark_of (mark_at log p) ≡ Start
+  read_start e = by_start (mark_at log p) _ _ _ (read_mark ∙ e)
+
+  pub read_later : get_or log (p * page_size) 0 ≡ 0 → mark_of (mark_at log p) ≡ Later
+  read_later e = by_later (mark_at log p) _ _ _ (read_mark ∙ e)
+
+  pub read_bad : (get_or log (p * page_size) 0 ≡ 1 → ⊥) → (get_or log (p * page_size) 0 ≡ 0 → ⊥) → mark_of (mark_at log p) ≡ Bad
+  read_bad a b = by_bad (mark_at log p) _ _ _ (λ e. a (sym read_mark ∙ e), λ e. b (sym read_mark ∙ e))
 
 -- what the code's mark tells
 module _ (m : ℕ) where

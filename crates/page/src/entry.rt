@@ -61,6 +61,7 @@ pub enum Entry {
 }
 
 impl Entry {
+    #[tactic(auto, using(crate::proofs::Starting::read_short_lem))]
     // What starts at page s. The mark is not read: of a page that is no start the answer is what the same bytes of a start would say.
     pub fn read(log: &[u8], s: usize) -> Entry
         requires { s < page_count log.now }

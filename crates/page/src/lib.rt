@@ -49,6 +49,7 @@ impl Page {
     pub const DATA_END: usize = Self::PAYLOAD_END - Self::ID_SIZE;
 
     // The pages of a payload of n bytes.
+    #[tactic(auto, using(crate::proofs::Counting::pages_linear))]
     pub fn pages_for(n: usize) -> usize
         ensures { result ≡ pages_for n }
     {

@@ -15,6 +15,7 @@ pub enum Mark {
 
 impl Mark {
     // The mark of page p.
+    #[tactic(auto, using(crate::proofs::Marking::read_start, crate::proofs::Marking::read_later, crate::proofs::Marking::read_bad))]
     pub fn read(log: &[u8], p: usize) -> Mark
         requires { p < page_count log.now }
         ensures { result ≡ mark_of (mark_at log.now p) }

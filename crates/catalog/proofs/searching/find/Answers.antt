@@ -6,7 +6,7 @@ use mathlib.Core.List.{List}
 use native.Mathlib.Omega.{arith}
 use Rattle.catalog.specs.Bounds.{bad_state, Good}
 use Rattle.catalog.proofs.Laws.Bounds.{good_state, length_log}
-use Rattle.catalog.proofs.Laws.Lookup.Tests.{find_bad, find_in, find_zero, find_late}
+use Rattle.catalog.proofs.Laws.Lookup.Tests.{find_bad, find_in, find_zero}
 use Rattle.catalog.proofs.searching.find.Goals as goal
 use Rattle.catalog.proofs.searching.find.Goals.{Else-is_bad_state}
 
@@ -28,11 +28,6 @@ returns-then-is_bad_state c = sym (find_bad _ _ _ (sym c.is_bad_state.ensures âˆ
 
 pub returns-then-id-eq0 : goal.returns-then-id-eq0
 returns-then-id-eq0 c = sym (find_zero _ _ _ (not_bad (goal.at.returns-then-id-eq0 c).Else-is_bad_state) (omega arith))
-
-pub returns-then-state-id : goal.returns-then-state-id
-returns-then-state-id c =
-    let some = c.if-id-eq0.false in
-    sym (find_late _ _ _ (not_bad (goal.at.returns-then-state-id c).Else-is_bad_state) (Î» e. omega arith) (omega arith))
 
 pub slice_bounds-search-end : goal.slice_bounds-search-end
 slice_bounds-search-end c =

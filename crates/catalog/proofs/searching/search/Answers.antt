@@ -42,7 +42,6 @@ window-preserved c =
 
 pub back-preserved : goal.back-preserved
 back-preserved c =
-    let differ = c.if-s-lo.false in
     (c.back.invariant.0, c.back.invariant.1, windows.further_back c.back.invariant.2 (omega arith) c.in-Back.ensures)
 
 pub returns-after-window : goal.returns-after-window

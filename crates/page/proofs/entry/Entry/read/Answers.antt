@@ -3,11 +3,8 @@ use mathlib.Core.Path.{ap}
 use Prim.Native.Nat.{ℕ, ◌+◌}
 use native.Mathlib.Omega.{arith}
 use Rattle.page.proofs.Counting.{pages_linear}
-use Rattle.page.proofs.Starting.{reads_short, reads_cut, reads_whole}
+use Rattle.page.proofs.Starting.{reads_cut, reads_whole}
 use Rattle.page.proofs.entry.Entry.read.Goals as goal
-
-pub returns-then-payload-lt-ID_SIZE : goal.returns-then-payload-lt-ID_SIZE
-returns-then-payload-lt-ID_SIZE c = reads_short _ _ _ c.read-header.ensures.0 (omega arith)
 
 pub overflow_add-after : goal.overflow_add-after
 overflow_add-after c = omega (arith, pages_linear c.read-header.result.length)
