@@ -61,8 +61,8 @@ pub enum Entry {
 }
 
 impl Entry {
-    #[tactic(auto, using(crate::proofs::Starting::read_short_lem))]
     // What starts at page s. The mark is not read: of a page that is no start the answer is what the same bytes of a start would say.
+    #[tactic(auto, using(crate::proofs::Starting::entry_is_short))]
     pub fn read(log: &[u8], s: usize) -> Entry
         requires { s < page_count log.now }
         ensures { paper_entry result ≡ entry_at log.now s }
