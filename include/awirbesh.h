@@ -1,6 +1,6 @@
 /* awirbesh.h: the proved transaction log, for C and for whoever speaks C's calls.
  *
- * Link with target/staticlib/libawirbesh.a (`rt staticlib awirbesh` makes it; x86-64).
+ * Link with crates/awirbesh/out/libawirbesh.a (`rt lib` in crates/awirbesh makes it; x86-64).
  * This file and host/src/ffi.rs state the same interface; a test on each side calls every function. What each call
  * does is said in full by docs/RULES.md, whose sections are cited here by number, as "rules 4".
  *
