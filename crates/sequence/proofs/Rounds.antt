@@ -114,3 +114,13 @@ module _ {after from : ℕ} {words₀ : List ℕ} {start : ℕ} {words : List �
   -- more than 64 ids remain
   pub going_more : 64 < after - start → all_noted (get_or words 0 0) (next after start) ≡ true → Going after from words₀ (start + 64) (shifted words)
   going_more h e = going_on 64 (shifted words) (omega arith) (rw (lt-ltb 64 (after - start) h)) (omega arith) e
+
+  all_passed : start < after → after - start ≤ 64 → all_noted (get_or words 0 0) (next after start) ≡ true
+      → Going after from words₀ (start + (after - start)) words
+  all_passed l h e = going_on (after - start) words (omega arith) (rw (le-ltb 64 (after - start) h)) l e
+
+-- no more than 64 ids remain
+pub going_last : {after from : ℕ} {words₀ : List ℕ} {start : ℕ} {words : List ℕ} → Going after from words₀ start words → start < after → after - start ≤ 64
+    → all_noted (get_or words 0 0) (next after start) ≡ true → truncated after words ≡ truncate_of after from words₀
+going_last {after} {start = start} {words = words} g l h e =
+    ap (λ (n : ℕ). truncated n words) (let q : after ≡ start + (after - start) = omega arith in q) ∙ going_end (all_passed g l h e) (omega arith)
