@@ -16,7 +16,7 @@ pub struct IdSequence {
 }
 
 // The sequence after a note, or a refusal that changes nothing.
-#[derive(Drop)]
+#[derive(Clone, Copy)]
 pub enum Noted {
     At(IdSequence),
     Refused(Refusal),
