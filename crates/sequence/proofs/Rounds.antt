@@ -93,9 +93,13 @@ pub going : (after from : ℕ) (words : List ℕ) → Going after from words fro
 going after from words = record { fuel = after - from; enough = omega arith; same = refl }
 
 module _ {after from : ℕ} {words₀ : List ℕ} {start : ℕ} {words : List ℕ} (g : Going after from words₀ start words) where
-  -- the word that was looked at is the first
-  pub first_word : {t : Bool} (i : ℕ) → t ≡ all_noted (get_or words i 0) (next after start) → i ≡ 0 → all_noted (get_or words 0 0) (next after start) ≡ t
-  first_word i h e = sym (rw e at h)
+  -- the word that was looked at is the first; the bound only shows i to the checker
+  pub first_word : {t : Bool} (i : ℕ) → i < 64 → i ≡ 0 → all_noted (get_or words i 0) (next after start) ≡ t → all_noted (get_or words 0 0) (next after start) ≡ t
+  first_word i inside e h = rw e at h
+
+  -- the same by what the test on it answered, which shows i
+  pub first_told : {t : Bool} (i : ℕ) → t ≡ all_noted (get_or words i 0) (next after start) → i ≡ 0 → all_noted (get_or words 0 0) (next after start) ≡ t
+  first_told i h e = sym (rw e at h)
 
   pub going_end : after ≤ start → truncated start words ≡ truncate_of after from words₀
   going_end h = sym (rounds_end after start words g.fuel h) ∙ g.same
