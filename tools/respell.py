@@ -6,7 +6,8 @@ usage: python3 tools/respell.py [--check]     at the top of the repository, once
 A name is the repository's own where a file of specs/, or a file of laws in proofs/, defines it; it begins with a small
 letter (types and facts keep their capitals). The crate log, whose name is a library's of the kit, becomes catalog. What a file imports from the library keeps its spelling there. In a
 function's own proof file only names that it imports from the repository are respelled, for the others are made by Rattle.
-Functions of src/, exported names, strings, inputs and outputs are not touched. With --check nothing is written: names that
+Functions of src/, exported names, strings, inputs and outputs are not touched, and the notes in docs/changes keep the
+names of their time. With --check nothing is written: names that
 would fall together are listed, and the exit status says whether there are any. The pages of docs/ and the header's and
 README's prose name definitions between backticks: there an old name, also one that port.py has respelled in the sources,
 becomes the new one.
@@ -175,7 +176,7 @@ def main():
                 file.write(respelled_source(text, change))
     known = {change.get(name, name) for name in own}
     pages = {old: new if new in known else snake(old) for old, new in respelling(old_names(names) | own).items()}
-    for path in sorted(glob.glob("docs/**/*.md", recursive=True) + ["README.md"]):
+    for path in sorted(glob.glob("docs/*.md") + ["README.md"]):
         if os.path.basename(path) == "PORT.md":
             continue
         text = read(path)

@@ -34,9 +34,6 @@ module _ (log : List ℕ) (s : ℕ) where
     unfolding entry_at
     reads_short a = rw (size, lt-ltb n id_size a)
 
-    pub entry_is_short : n < id_size → entry_at log s ≡ short
-    entry_is_short a = sym (reads_short a)
-
     module _ (a : id_size ≤ n) (after : ℕ) (f : after ≡ s + pages_for n)
         (id : ℕ) (i : id ≡ number_at (take (length log - s * page_size) (drop (s * page_size) log)) payload_start id_size) where
       named : id_at log s ≡ id

@@ -62,7 +62,7 @@ pub enum Entry {
 
 impl Entry {
     // What starts at page s. The mark is not read: of a page that is no start the answer is what the same bytes of a start would say.
-    #[tactic(auto, using(crate::proofs::Starting::entry_is_short))]
+    #[tactic(auto, using(crate::proofs::Starting::reads_short))]
     pub fn read(log: &[u8], s: usize) -> Entry
         requires { s < page_count log.now }
         ensures { paper_entry result ≡ entry_at log.now s }

@@ -93,13 +93,9 @@ pub going : (after from : ℕ) (words : List ℕ) → Going after from words fro
 going after from words = record { fuel = after - from; enough = omega arith; same = refl }
 
 module _ {after from : ℕ} {words₀ : List ℕ} {start : ℕ} {words : List ℕ} (g : Going after from words₀ start words) where
-  -- the word that was looked at is the first; the bound only shows i to the checker
-  pub first_word : {t : Bool} (i : ℕ) → i < 64 → i ≡ 0 → all_noted (get_or words i 0) (next after start) ≡ t → all_noted (get_or words 0 0) (next after start) ≡ t
-  first_word i inside e h = rw e at h
-
-  -- the same by what the test on it answered, which shows i
-  pub first_told : {t : Bool} (i : ℕ) → t ≡ all_noted (get_or words i 0) (next after start) → i ≡ 0 → all_noted (get_or words 0 0) (next after start) ≡ t
-  first_told i h e = sym (rw e at h)
+  -- the word that was looked at is the first
+  pub first_word : {t : Bool} (i : ℕ) → t ≡ all_noted (get_or words i 0) (next after start) → i ≡ 0 → all_noted (get_or words 0 0) (next after start) ≡ t
+  first_word i h e = sym (rw e at h)
 
   pub going_end : after ≤ start → truncated start words ≡ truncate_of after from words₀
   going_end h = sym (rounds_end after start words g.fuel h) ∙ g.same
@@ -119,12 +115,7 @@ module _ {after from : ℕ} {words₀ : List ℕ} {start : ℕ} {words : List �
   pub going_more : 64 < after - start → all_noted (get_or words 0 0) (next after start) ≡ true → Going after from words₀ (start + 64) (shifted words)
   going_more h e = going_on 64 (shifted words) (omega arith) (rw (lt-ltb 64 (after - start) h)) (omega arith) e
 
-  all_passed : start < after → after - start ≤ 64 → all_noted (get_or words 0 0) (next after start) ≡ true
-      → Going after from words₀ (start + (after - start)) words
-  all_passed l h e = going_on (after - start) words (omega arith) (rw (le-ltb 64 (after - start) h)) l e
-
 -- no more than 64 ids remain
 pub going_last : {after from : ℕ} {words₀ : List ℕ} {start : ℕ} {words : List ℕ} → Going after from words₀ start words → start < after → after - start ≤ 64
     → all_noted (get_or words 0 0) (next after start) ≡ true → truncated after words ≡ truncate_of after from words₀
-going_last {after} {start = start} {words = words} g l h e =
-    ap (λ (n : ℕ). truncated n words) (let q : after ≡ start + (after - start) = omega arith in q) ∙ going_end (all_passed g l h e) (omega arith)
+going_last {after} {start = start} {words = words} g l h e = sym (rounds_last g.fuel after start words l h g.enough (sym e)) ∙ g.same

@@ -14,10 +14,12 @@ pub slice_bounds-write_in_turn-count : goal.slice_bounds-write_in_turn-count
 slice_bounds-write_in_turn-count c = omega (arith, data_above c.loop-written.invariant (omega arith))
 
 pub slice_bounds-write_in_turn-start : goal.slice_bounds-write_in_turn-start
-slice_bounds-write_in_turn-start c = omega (arith, data_above c.loop-written.invariant (omega arith), data_inside c.loop-written.invariant (omega arith))
+slice_bounds-write_in_turn-start c =
+    omega (arith, data_above c.loop-written.invariant (omega arith), data_inside c.loop-written.invariant (omega arith))
 
 pub slice_bounds-write_in_turn-end : goal.slice_bounds-write_in_turn-end
-slice_bounds-write_in_turn-end c = omega (arith, data_above c.loop-written.invariant (omega arith), data_inside c.loop-written.invariant (omega arith))
+slice_bounds-write_in_turn-end c =
+    omega (arith, data_above c.loop-written.invariant (omega arith), data_inside c.loop-written.invariant (omega arith))
 
 pub returns-in-Ended : goal.returns-in-Ended
 returns-in-Ended c =
@@ -30,5 +32,6 @@ loop-written-preserved c =
 
 pub returns : goal.returns
 returns c =
-    let e = entries_end c.loop-written.invariant (omega arith) (pushing none c.loop-written.written c.loop-written.state) c.loop-written.written refl refl in
+    let w = c.loop-written in
+    let e = entries_end w.invariant (omega arith) (pushing none w.written w.state) w.written refl refl in
     record { result_value = e.0; store_after = e.1 }

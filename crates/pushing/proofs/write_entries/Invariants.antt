@@ -1,4 +1,4 @@
--- `write_entries` meets its contract: what is left to do is what was to do. Assumes nothing.
+-- What the loop of `write_entries` keeps: what is left to do is what was to do. Assumes nothing.
 use Prim.Native.Nat.{◌-◌}
 use lib.ListN.{length}
 use Rattle.pushing.proofs.Laws.Entries.{EntriesLoop}

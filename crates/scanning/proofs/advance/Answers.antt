@@ -23,10 +23,10 @@ overflow_mul-result c =
     omega (arith, there.room, there.within)
 
 pub returns-in-Refused : goal.returns-in-Refused
-returns-in-Refused c = advance_fault _ _ _ _ _ _ (c.in-Refused.ensures)
+returns-in-Refused c = advance_fault _ _ _ _ _ _ c.in-Refused.ensures
 
 pub returns-in-End : goal.returns-in-End
-returns-in-End c = advance_end _ _ _ _ _ _ (c.in-End.ensures) (omega arith)
+returns-in-End c = advance_end _ _ _ _ _ _ c.in-End.ensures (omega arith)
 
 pub returns-else-out-length : goal.returns-else-out-length
 returns-else-out-length c =

@@ -1,4 +1,4 @@
--- `forward` meets its contract. The loop's invariant: the rounds from here end as those from the first page. Assumes nothing.
+-- What the loop of `forward` keeps: the rounds from here end as those from the first page. Assumes nothing.
 use Prim.Native.Nat.{◌-◌}
 use Rattle.scanning.proofs.Laws.Forward.{ForwardLoop}
 use Rattle.scanning.proofs.forward.Given as goal

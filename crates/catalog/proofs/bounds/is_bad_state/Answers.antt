@@ -4,8 +4,8 @@ use Rattle.catalog.proofs.bounds.is_bad_state.Goals as goal
 
 pub returns-then-is_too_long : goal.returns-then-is_too_long
 unfolding bad_state
-returns-then-is_too_long c = rw (← c.is_too_long.ensures, c.if-is_too_long.true)
+returns-then-is_too_long c = rw (← c.if-is_too_long.ensures)
 
 pub returns : goal.returns
 unfolding bad_state
-returns c = rw (← c.is_too_long.ensures, c.if-is_too_long.false)
+returns c = rw (← c.if-is_too_long.ensures)

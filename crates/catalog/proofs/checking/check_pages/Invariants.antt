@@ -1,4 +1,4 @@
--- `check_pages` meets its contract: the pages that are left say what all say. Assumes nothing.
+-- What the loop of `check_pages` keeps: the pages that are left say what all say. Assumes nothing.
 use Prim.Native.Nat.{◌-◌}
 use Rattle.catalog.proofs.Laws.Check.Steps.{PagesLeft}
 use Rattle.catalog.proofs.checking.check_pages.Given as goal

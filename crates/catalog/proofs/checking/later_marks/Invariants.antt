@@ -1,4 +1,4 @@
--- `later_marks` meets its contract: the pages from here on say what those from the first on say. Assumes nothing.
+-- What the loop of `later_marks` keeps: the pages from here on say what those from the first on say. Assumes nothing.
 use mathlib.Core.Path.{◌≡◌}
 use Prim.Native.Nat.{◌-◌, ◌≤◌}
 use Rattle.catalog.specs.Check.{later_marks}

@@ -16,23 +16,23 @@ pub overflow_mul-left : goal.overflow_mul-left
 overflow_mul-left c = omega (arith, c.loop-p.invariant.most)
 
 pub slice_bounds-read-end : goal.slice_bounds-read-end
-slice_bounds-read-end c = sym (length-take-le _ _ (omega (arith, c.loop-p.invariant.most)))
+slice_bounds-read-end c = sym (length-take-le _ _ (omega arith))
 
 pub read-entry-requires : goal.read-entry-requires
-read-entry-requires c = part_inside _ _ _ _ c.loop-p.invariant _ (omega arith) _ (sym (length-take-le _ _ (omega (arith, c.loop-p.invariant.most)))) (omega arith)
+read-entry-requires c = part_inside _ _ _ _ c.loop-p.invariant _ (omega arith) _ (sym (length-take-le _ _ (omega arith))) (omega arith)
 
 pub returns-in-Short : goal.returns-in-Short
 returns-in-Short c =
     ends_short _ _ _ _ c.loop-p.invariant _ (omega arith)
     (is_start _ (sym c.in-Start.ensures))
-    _ (sym (length-take-le _ _ (omega (arith, c.loop-p.invariant.most)))) (omega arith) _ (omega arith)
+    _ (sym (length-take-le _ _ (omega arith))) (omega arith) _ (omega arith)
     (sym c.in-Short.ensures) _ (omega arith)
 
 pub loop-p-preserved-in-Cut : goal.loop-p-preserved-in-Cut
 loop-p-preserved-in-Cut c =
     drops_cut _ _ _ _ c.loop-p.invariant _ (omega arith)
     (is_start _ (sym c.in-Start.ensures))
-    _ (sym (length-take-le _ _ (omega (arith, c.loop-p.invariant.most)))) (omega arith) _ (omega arith)
+    _ (sym (length-take-le _ _ (omega arith))) (omega arith) _ (omega arith)
     _ (sym c.in-Cut.ensures) _ (omega arith)
 
 pub overflow_mul-left-in-Whole : goal.overflow_mul-left-in-Whole
@@ -46,7 +46,7 @@ returns-in-Whole c =
     c.at_whole.ensures
     ∙ ends_whole _ _ _ _ c.loop-p.invariant _ (omega arith)
     (is_start _ (sym c.in-Start.ensures))
-    _ (sym (length-take-le _ _ (omega (arith, c.loop-p.invariant.most)))) (omega arith) _ (omega arith)
+    _ (sym (length-take-le _ _ (omega arith))) (omega arith) _ (omega arith)
     _ _ _ (sym c.in-Whole.ensures) _ (omega arith) _ (omega arith)
 
 pub returns-in-Bad : goal.returns-in-Bad

@@ -1,4 +1,4 @@
--- `walk_back` meets its contract: the walk from here, in what is left, ends as the walk from the last page. Assumes nothing.
+-- What the loop of `walk_back` keeps: the walk from here, in what is left, ends as the walk from the last page. Assumes nothing.
 use Rattle.catalog.proofs.Laws.Recovery.Steps.{BackLoop}
 use Rattle.catalog.proofs.recovery.walk_back.Given as goal
 

@@ -1,4 +1,4 @@
--- `search` meets its contract: each way through the loops is one law of `Windows`. Assumes nothing.
+-- What the loops of `search` keep: what is left of the window says what the whole log says. Assumes nothing.
 use Prim.Native.Nat.{◌-◌}
 use mathlib.Core.Path.{◌≡◌}
 use Rattle.catalog.proofs.Laws.Lookup.Windows.{WindowLoop, BackLoop}

@@ -1,4 +1,4 @@
--- `copy_from` meets its contract. The invariant: `out` is the first i data bytes and then what it was, and `at` is where the byte before i ended. Assumes nothing.
+-- `copy_from` meets its contract: each byte is read from its place. Assumes nothing.
 use mathlib.Core.Path.{◌≡◌}
 use mathlib.Core.List.{List, ◌++◌}
 use Prim.Native.Nat.{◌<◌, ℕ, ◌+◌, ◌-◌}
@@ -17,7 +17,8 @@ unfolding data_from
 loop-i-init c = search rules
 
 -- one byte copied, wherever the code reads it, if that is its place
-stored : (part out : List ℕ) (at i : ℕ) → i < length out → at ≡ place_of i - data_start → set (data_from part i ++ drop i out) i (get_or part at 0) ≡ data_from part (i + 1) ++ drop (i + 1) out
+stored : (part out : List ℕ) (at i : ℕ) → i < length out → at ≡ place_of i - data_start
+    → set (data_from part i ++ drop i out) i (get_or part at 0) ≡ data_from part (i + 1) ++ drop (i + 1) out
 unfolding data_from
 stored part out at i h e = rw e (tab_store (λ i. get_or part (place_of i - data_start) 0) i out h)
 

@@ -1,4 +1,4 @@
--- `number_at` meets its contract. The invariant: n is the number of the i bytes read. Assumes nothing.
+-- What the loop of `number_at` keeps: n is the number of the i bytes read. Assumes nothing.
 use mathlib.Core.Path.{◌≡◌}
 use Prim.Native.Nat.{◌-◌, ◌^◌, ◌<◌, ◌≤◌}
 use Rattle.page.specs.Bytes.{number_at}

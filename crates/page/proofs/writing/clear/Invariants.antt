@@ -1,4 +1,4 @@
--- `clear` meets its contract. The invariant: what is cleared is zeros, and the rest is what it was. Assumes nothing.
+-- What the loop of `clear` keeps: what is cleared is zeros, and the rest is what it was. Assumes nothing.
 use Prim.Native.Nat.{◌-◌}
 use lib.ListN.{length}
 use Rattle.page.proofs.Filling.{ClearLoop}

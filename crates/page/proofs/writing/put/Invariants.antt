@@ -1,4 +1,4 @@
--- `put` meets its contract. The invariant: `dst` is the first i bytes of `src` and then what it was. Assumes nothing.
+-- What the loop of `put` keeps: `dst` is the first i bytes of `src` and then what it was. Assumes nothing.
 use mathlib.Core.Path.{◌≡◌}
 use mathlib.Core.List.{◌++◌}
 use Prim.Native.Nat.{◌-◌, ◌≤◌}

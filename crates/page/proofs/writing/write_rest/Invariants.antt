@@ -1,4 +1,4 @@
--- `write_rest` meets its contract: one later page a turn. Assumes nothing.
+-- What the loop of `write_rest` keeps: one later page a turn. Assumes nothing.
 use Prim.Native.Nat.{◌-◌}
 use Rattle.page.proofs.Turning.{LaterLoop}
 use Rattle.page.proofs.writing.write_rest.Given as goal

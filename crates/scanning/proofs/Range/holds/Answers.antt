@@ -4,8 +4,8 @@ use Rattle.scanning.proofs.Range.holds.Goals as goal
 
 pub returns-then-is_above : goal.returns-then-is_above
 unfolding holds_of
-returns-then-is_above c = rw (← c.is_above.ensures, c.if-is_above.true) c.is_below.ensures
+returns-then-is_above c = rw (← c.if-is_above.ensures) c.is_below.ensures
 
 pub returns : goal.returns
 unfolding holds_of
-returns c = rw (← c.is_above.ensures, c.if-is_above.false)
+returns c = rw (← c.if-is_above.ensures)

@@ -15,4 +15,5 @@ returns-then-count-after c =
 
 pub returns : goal.returns
 returns c =
-    reads_whole _ _ _ c.read-header.ensures.0 (omega arith) _ (ap (λ (k : ℕ). c.args.s + k) c.pages_for.ensures) _ c.read-header.ensures.1 (omega arith) _ (omega arith)
+    reads_whole _ _ _ c.read-header.ensures.0 (omega arith) _ (ap (λ (k : ℕ). c.args.s + k) c.pages_for.ensures)
+    _ c.read-header.ensures.1 (omega arith) _ (omega arith)

@@ -1,0 +1,9 @@
+-- `awirbesh_push` meets its contract. Assumes nothing.
+use mathlib.Core.Path.{ap, ◌∙◌}
+use Rattle.awirbesh.specs.Push.{pushed_numbers}
+use Rattle.awirbesh.proofs.writing.awirbesh_push.Goals as goal
+
+pub returns : goal.returns
+returns c =
+    let e = rw c.state_from.ensures at c.push.ensures in
+    record { value = c.pushed_numbers.ensures ∙ ap pushed_numbers e.result_value; store_after = e.store_after }
