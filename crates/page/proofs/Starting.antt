@@ -1,5 +1,5 @@
 -- What starts at a page: read from the part from its start page, and what a whole entry is. Assumes nothing.
-use mathlib.Core.Path.{◌≡◌, refl, sym, ◌∙◌}
+use mathlib.Core.Path.{◌≡◌, refl, sym, ap, ◌∙◌}
 use mathlib.Core.Bool.{Bool, true, false}
 use mathlib.Core.List.{List}
 use Prim.Native.Nat.{ℕ, ◌+◌, ◌-◌, ◌*◌, ◌≤◌, ◌<◌}
@@ -8,10 +8,14 @@ use borrow.Author.Tests.{lt-ltb, le-ltb, ltb-true, ltb-false}
 use lib.Dec.{ltb}
 use lib.ListN.{length, take, drop}
 use lib.Seq.{get_or-drop}
+use Rattle.std.specs.Prelude.{Ok, Err}
 use Rattle.refusal.specs.Pick.{pick}
+use Rattle.refusal.specs.declared.Refusal.{Refusal}
+use Rattle.refusal.specs.declared.Refusal.TheVariants.{ShortEntry, CutEntry}
+use Rattle.page.specs.declared.entry.Whole as entire
 use Rattle.page.specs.Size.{page_size, length_size, id_size, payload_start, pages_for, pages_for_data, page_count, page_at}
 use Rattle.page.specs.Bytes.{number_at}
-use Rattle.page.specs.Entry.{short, cut, whole, length_at, id_at, data_length_at, after_at, entry_at}
+use Rattle.page.specs.Entry.{Starting, short, cut, whole, whole_of, length_at, id_at, data_length_at, after_at, entry_at}
 use Rattle.page.proofs.Counting.{pages_some}
 use Rattle.page.proofs.Digits.{number_same}
 use Rattle.page.proofs.Paging.{page_byte}
@@ -47,6 +51,20 @@ module _ (log : List ℕ) (s : ℕ) where
       pub reads_whole : after ≤ page_count log → (len : ℕ) → len ≡ n - id_size → whole id len after ≡ entry_at log s
       unfolding entry_at
       reads_whole b len l = rw (size, named, l, le-ltb n id_size a, ← f, le-ltb (page_count log) after b)
+
+-- ---- what the code's answer for what starts at page s tells
+
+pub the_whole : (s : ℕ) (st : Starting) {w : entire.Whole} → Ok w ≡ whole_of s st → st ≡ whole w.id w.length w.after
+the_whole s short h = absurd (let z : ◌≡◌ {A = ℕ} 0 1 = cc in omega arith)
+the_whole s (cut id) h = absurd (let z : ◌≡◌ {A = ℕ} 0 1 = cc in omega arith)
+the_whole s (whole id len after) h = cc
+
+-- where it is passed on by `?`: f is what becomes of a refusal, and g what the rules answer for what starts there
+pub not_whole : {A : Type 0} (s : ℕ) (st : Starting) (f : Refusal → A) (g : Starting → A) {e : Refusal} → Err e ≡ whole_of s st
+    → g short ≡ f (ShortEntry s) → ((id : ℕ) → g (cut id) ≡ f (CutEntry s)) → g st ≡ f e
+not_whole s short f g h a b = a ∙ ap f cc
+not_whole s (cut id) f g h a b = b id ∙ ap f cc
+not_whole s (whole id len after) f g h a b = absurd (let z : ◌≡◌ {A = ℕ} 0 1 = cc in omega arith)
 
 -- ---- a whole entry
 

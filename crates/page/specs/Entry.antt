@@ -1,8 +1,11 @@
 -- Rules 1, "Pages, the store and the state": what a start says of its entry; and Rules 3, "Refusals", 6 and 7: whether it is whole.
-use Rattle.std.specs.Prelude.{ℕ, ◌+◌, ◌-◌, List, ltb}
+use Rattle.std.specs.Prelude.{ℕ, ◌+◌, ◌-◌, List, Result, Ok, Err, ltb}
 use Rattle.refusal.specs.Pick.{pick}
 use Rattle.page.specs.Size.{length_size, id_size, payload_start, pages_for, page_count, page_at}
 use Rattle.page.specs.Bytes.{number_at}
+use Rattle.refusal.specs.declared.Refusal.{Refusal}
+use Rattle.refusal.specs.declared.Refusal.TheVariants.{ShortEntry, CutEntry}
+use Rattle.page.specs.declared.entry.Whole as entire
 use Rattle.page.specs.declared.entry.Entry.{Entry}
 use Rattle.page.specs.declared.entry.Entry.TheVariants.{Short, Cut, Whole}
 
@@ -39,4 +42,10 @@ entry_at log s =
 abbrev pub paper_entry : Entry → Starting
 paper_entry Short = short
 paper_entry (Cut id) = cut id
-paper_entry (Whole id len after) = whole id len after
+paper_entry (Whole w) = whole w.id w.length w.after
+
+-- the code's whole entry for what starts at page s, else refusal 6, "a start has a payload length under 8", or 7, "the pages of a start go past the log's last whole page"
+abbrev pub whole_of : ℕ → Starting → Result entire.Whole Refusal
+whole_of s short = Err (ShortEntry s)
+whole_of s (cut id) = Err (CutEntry s)
+whole_of s (whole id len after) = Ok (record { id = id; length = len; after = after })

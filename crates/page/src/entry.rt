@@ -2,9 +2,10 @@
 ghost use Rattle.std.specs.Prelude.{◌≡◌, ◌+◌, ◌<◌, ◌≤◌, ◌^◌, length};
 ghost use Rattle.page.specs.Size.{length_size, id_size, payload_start, data_start, payload_end, page_count};
 ghost use Rattle.page.specs.Bytes.{number_at};
-ghost use Rattle.page.specs.Entry.{entry_at, paper_entry};
+ghost use Rattle.page.specs.Entry.{entry_at, paper_entry, whole_of};
 
 use crate::Page;
+use refusal::Refusal;
 
 fn wide(x: u8) -> u64
     ensures { (result ≡ x) × (x < 256) }
@@ -46,18 +47,20 @@ impl Header {
     }
 }
 
-// What starts at a page: too short for an id, an entry whose pages run past the log's whole pages, or a whole one with its data length and the page after it.
-#[derive(Clone, Copy)]
+// An entry whose pages are all there: its id, the length of its data and the page after it.
+#[derive(Clone, Copy, Debug, PartialEq, Eq)]
+pub struct Whole {
+    pub id: u64,
+    pub length: usize,
+    pub after: usize,
+}
+
+// What starts at a page: too short for an id, an entry whose pages run past the log's whole pages, or a whole one.
+#[derive(Clone, Copy, Debug, PartialEq, Eq)]
 pub enum Entry {
     Short,
-    Cut {
-        id: u64,
-    },
-    Whole {
-        id: u64,
-        length: usize,
-        after: usize,
-    },
+    Cut { id: u64 },
+    Whole(Whole),
 }
 
 impl Entry {
@@ -78,10 +81,21 @@ impl Entry {
         if Page::count(log) < after {
             return Entry::Cut { id };
         }
-        Entry::Whole {
+        Entry::Whole(Whole {
             id,
             length: payload - Page::ID_SIZE,
             after,
+        })
+    }
+
+    // The whole entry, or the refusal that names the page at which it was read.
+    pub fn whole(self, page: usize) -> Result<Whole, Refusal>
+        ensures { result ≡ whole_of page (paper_entry self) }
+    {
+        match self {
+            Entry::Short => Err(Refusal::ShortEntry { page: page as u64 }),
+            Entry::Cut { id: _ } => Err(Refusal::CutEntry { page: page as u64 }),
+            Entry::Whole(whole) => Ok(whole),
         }
     }
 }

@@ -4,30 +4,27 @@ ghost use Rattle.page.specs.Size.{page_count};
 ghost use Rattle.page.specs.Mark.{mark_at, mark_of};
 
 use crate::Page;
+use refusal::Refusal;
 
 // 1 starts an entry, 0 does not, and no other mark is good.
-#[derive(Clone, Copy)]
+#[derive(Clone, Copy, Debug, PartialEq, Eq)]
 pub enum Mark {
     Start,
     Later,
-    Bad,
 }
 
 impl Mark {
     // The mark of page p.
     #[tactic(auto, using(crate::proofs::Marking::read_start, crate::proofs::Marking::read_later, crate::proofs::Marking::read_bad))]
-    pub fn read(log: &[u8], p: usize) -> Mark
+    pub fn read(log: &[u8], p: usize) -> Result<Mark, Refusal>
         requires { p < page_count log.now }
-        ensures { result ≡ mark_of (mark_at log.now p) }
+        ensures { result ≡ mark_of p (mark_at log.now p) }
     {
         let at = p * Page::SIZE;
-        let mark = log[at];
-        if mark == 1 {
-            return Mark::Start;
+        match log[at] {
+            1 => Ok(Mark::Start),
+            0 => Ok(Mark::Later),
+            _ => Err(Refusal::BadMark { page: p as u64 }),
         }
-        if mark == 0 {
-            return Mark::Later;
-        }
-        Mark::Bad
     }
 }
