@@ -63,22 +63,21 @@ pub enum Entry {
     Whole(Whole),
 }
 
-impl Entry {
-    // What starts at page s. The mark is not read: of a page that is no start the answer is what the same bytes of a start would say.
+impl Page<'_> {
+    // What starts at the page. The mark is not read: of a page that is no start the answer is what the same bytes of a start would say.
     #[tactic(auto, using(crate::proofs::Starting::reads_short))]
-    pub fn read(log: &[u8], s: usize) -> Entry
-        requires { s < page_count log.now }
-        ensures { paper_entry result ≡ entry_at log.now s }
+    pub fn entry(self) -> Entry
+        ensures { paper_entry result ≡ entry_at self.entry.log.now self.entry.number }
     {
-        let at = s * Page::SIZE;
-        let header = Header::read(&log[at..]);
+        let at = self.number * Page::SIZE;
+        let header = Header::read(&self.log[at..]);
         let payload = header.length;
         let id = header.id;
         if payload < Page::ID_SIZE {
             return Entry::Short;
         }
-        let after = s + Page::pages_for(payload);
-        if Page::count(log) < after {
+        let after = self.number + Page::pages_for(payload);
+        if Page::count(self.log) < after {
             return Entry::Cut { id };
         }
         Entry::Whole(Whole {
@@ -88,13 +87,14 @@ impl Entry {
         })
     }
 
-    // The whole entry, or the refusal that names the page at which it was read.
-    pub fn whole(self, page: usize) -> Result<Whole, Refusal>
-        ensures { result ≡ whole_of page (paper_entry self) }
+    // The whole entry that starts at the page; refusal 6 or 7 if there is none.
+    pub fn whole(self) -> Result<Whole, Refusal>
+        ensures { result ≡ whole_of self.entry.number (entry_at self.entry.log.now self.entry.number) }
     {
-        match self {
-            Entry::Short => Err(Refusal::ShortEntry { page: page as u64 }),
-            Entry::Cut { id: _ } => Err(Refusal::CutEntry { page: page as u64 }),
+        let page = self.number as u64;
+        match self.entry() {
+            Entry::Short => Err(Refusal::ShortEntry { page }),
+            Entry::Cut { id: _ } => Err(Refusal::CutEntry { page }),
             Entry::Whole(whole) => Ok(whole),
         }
     }

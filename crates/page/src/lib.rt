@@ -14,10 +14,15 @@ pub use entry::{Entry, Whole};
 pub use marks::Mark;
 pub use writing::write_entry;
 
+// A page of a log, by its number.
 #[derive(Clone, Copy)]
-pub struct Page;
+pub struct Page<'a> {
+    pub log: &'a [u8],
+    pub number: usize,
+    ghost inside: { number < page_count log.now },
+}
 
-impl Page {
+impl Page<'_> {
     // Bytes of a page in all.
     pub const SIZE: usize = 1024;
 

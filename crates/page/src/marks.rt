@@ -1,6 +1,5 @@
 // Byte 0 of a page.
-ghost use Rattle.std.specs.Prelude.{◌≡◌, ◌<◌};
-ghost use Rattle.page.specs.Size.{page_count};
+ghost use Rattle.std.specs.Prelude.{◌≡◌};
 ghost use Rattle.page.specs.Mark.{mark_at, mark_of};
 
 use crate::Page;
@@ -13,18 +12,19 @@ pub enum Mark {
     Later,
 }
 
-impl Mark {
-    // The mark of page p.
+impl Page<'_> {
+    // The page's mark; refusal 5 if it is bad.
     #[tactic(auto, using(crate::proofs::Marking::read_start, crate::proofs::Marking::read_later, crate::proofs::Marking::read_bad))]
-    pub fn read(log: &[u8], p: usize) -> Result<Mark, Refusal>
-        requires { p < page_count log.now }
-        ensures { result ≡ mark_of p (mark_at log.now p) }
+    pub fn mark(self) -> Result<Mark, Refusal>
+        ensures { result ≡ mark_of self.entry.number (mark_at self.entry.log.now self.entry.number) }
     {
-        let at = p * Page::SIZE;
-        match log[at] {
+        let at = self.number * Page::SIZE;
+        match self.log[at] {
             1 => Ok(Mark::Start),
             0 => Ok(Mark::Later),
-            _ => Err(Refusal::BadMark { page: p as u64 }),
+            _ => Err(Refusal::BadMark {
+                page: self.number as u64,
+            }),
         }
     }
 }
