@@ -1,14 +1,13 @@
 -- Rules 7, "Sound check", step by step.
-use Rattle.std.specs.Prelude.{ℕ, zero, suc, ◌+◌, ◌-◌, ◌%◌, List, ltb, leb, eqb, length, take}
+use Rattle.std.specs.Prelude.{ℕ, zero, suc, ◌+◌, ◌-◌, ◌%◌, List, ltb, leb, eqb, length, take, Result, Ok, Err}
 use Rattle.refusal.specs.Pick.{pick}
 use Rattle.refusal.specs.Refusal.{number_of, value_of}
+use Rattle.refusal.specs.declared.Refusal.{Refusal}
 use Rattle.page.specs.Size.{page_size, page_count}
 use Rattle.page.specs.Mark.{mark_at, by_mark}
 use Rattle.page.specs.Entry.{Starting, short, cut, whole, entry_at}
 use Rattle.catalog.specs.Round.{Round, stop, again, follow}
 use Rattle.catalog.specs.Bounds.{too_long}
-use Rattle.catalog.specs.declared.checking.Checked.{Checked}
-use Rattle.catalog.specs.declared.checking.Checked.TheVariants.{Sound, Refused}
 
 -- what the sound check answers: sound, or a refusal
 pub data Checking : Type 0 where
@@ -16,9 +15,9 @@ pub data Checking : Type 0 where
   refused : (number value : ℕ) → Checking
 
 -- the rules' answer for each case of the code's
-abbrev pub paper_checked : Checked → Checking
-paper_checked Sound = sound
-paper_checked (Refused r) = refused (number_of r) (value_of r)
+abbrev pub paper_checked : Result Unit Refusal → Checking
+paper_checked (Ok _) = sound
+paper_checked (Err r) = refused (number_of r) (value_of r)
 
 -- where the check goes on: at a page, with the last id before it
 pub record Checkpoint : Type 0 where

@@ -1,7 +1,8 @@
 -- Rules 8, "Lookup", step by step.
-use Rattle.std.specs.Prelude.{ℕ, zero, suc, ◌+◌, ◌-◌, ◌*◌, ◌/◌, max, List, ltb, leb, eqb, length, take}
+use Rattle.std.specs.Prelude.{ℕ, zero, suc, ◌+◌, ◌-◌, ◌*◌, ◌/◌, max, List, ltb, leb, eqb, length, take, Result, Ok, Err}
 use Rattle.refusal.specs.Pick.{pick}
 use Rattle.refusal.specs.Refusal.{number_of, value_of}
+use Rattle.refusal.specs.declared.Refusal.{Refusal}
 use Rattle.page.specs.Size.{page_size, page_count}
 use Rattle.page.specs.Mark.{mark_at, by_mark}
 use Rattle.page.specs.Entry.{Starting, short, cut, whole, entry_at}
@@ -11,7 +12,7 @@ use Rattle.catalog.specs.Bounds.{bad_state}
 use Rattle.catalog.specs.Guess.{offset_of}
 use Rattle.catalog.specs.declared.state.State.{State}
 use Rattle.catalog.specs.declared.searching.Look.{Look}
-use Rattle.catalog.specs.declared.searching.Look.TheVariants.{Found, Absent, Refused}
+use Rattle.catalog.specs.declared.searching.Look.TheVariants.{Found, Absent}
 
 -- what a lookup answers: found with position and data length, absent with a position, or a refusal
 pub data Looking : Type 0 where
@@ -20,10 +21,10 @@ pub data Looking : Type 0 where
   refused : (number value : ℕ) → Looking
 
 -- the rules' answer for each case of the code's
-abbrev pub paper_look : Look → Looking
-paper_look (Found position len) = found position len
-paper_look (Absent position) = absent position
-paper_look (Refused r) = refused (number_of r) (value_of r)
+abbrev pub paper_look : Result Look Refusal → Looking
+paper_look (Ok (Found position len)) = found position len
+paper_look (Ok (Absent position)) = absent position
+paper_look (Err r) = refused (number_of r) (value_of r)
 
 -- ---- one page
 

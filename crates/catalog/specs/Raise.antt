@@ -1,11 +1,10 @@
 -- Rules 5, "Take and raise": raising the ceiling.
-use Rattle.std.specs.Prelude.{ℕ, ◌+◌, ◌^◌, Bool, ◌||◌, eqb, ltb}
+use Rattle.std.specs.Prelude.{ℕ, ◌+◌, ◌^◌, Bool, ◌||◌, eqb, ltb, Result, Ok, Err}
 use Rattle.refusal.specs.Pick.{pick}
 use Rattle.refusal.specs.Refusal.{number_of, value_of}
+use Rattle.refusal.specs.declared.Refusal.{Refusal}
 use Rattle.catalog.specs.State.{state_of, top_id}
 use Rattle.catalog.specs.declared.state.State.{State}
-use Rattle.catalog.specs.declared.state.Raised.{Raised}
-use Rattle.catalog.specs.declared.state.Raised.TheVariants.{To, Refused}
 
 -- what raising the ceiling answers: the state with the new one, or a refusal
 pub data Raising : Type 0 where
@@ -21,6 +20,6 @@ unfoldable pub raise_of : State → ℕ → Raising
 raise_of st step = pick (bad_step st.ceiling step) (refused 31 0) (raised (state_of st.length st.last st.next (st.ceiling + step)))
 
 -- the rules' answer for each case of the code's
-abbrev pub paper_raised : Raised → Raising
-paper_raised (To state) = raised state
-paper_raised (Refused r) = refused (number_of r) (value_of r)
+abbrev pub paper_raised : Result State Refusal → Raising
+paper_raised (Ok state) = raised state
+paper_raised (Err r) = refused (number_of r) (value_of r)

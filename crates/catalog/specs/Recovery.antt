@@ -1,7 +1,8 @@
 -- Rules 6, "Recovery", step by step.
-use Rattle.std.specs.Prelude.{ℕ, zero, suc, ◌-◌, ◌*◌, ◌%◌, List, eqb, length, take}
+use Rattle.std.specs.Prelude.{ℕ, zero, suc, ◌-◌, ◌*◌, ◌%◌, List, eqb, length, take, Result, Ok, Err}
 use Rattle.refusal.specs.Pick.{pick}
 use Rattle.refusal.specs.Refusal.{number_of, value_of}
+use Rattle.refusal.specs.declared.Refusal.{Refusal}
 use Rattle.page.specs.Size.{page_size, page_count}
 use Rattle.page.specs.Mark.{mark_at, by_mark}
 use Rattle.page.specs.Entry.{Starting, short, cut, whole, entry_at}
@@ -9,7 +10,6 @@ use Rattle.catalog.specs.Bounds.{too_long}
 use Rattle.catalog.specs.State.{fresh, recovered_at, resumed_above, top_id}
 use Rattle.catalog.specs.declared.state.State.{State}
 use Rattle.catalog.specs.declared.recovery.Recovered.{Recovered}
-use Rattle.catalog.specs.declared.recovery.Recovered.TheVariants.{At, Refused}
 
 -- what recovery answers: a state, the size of the excess and the count of pages dropped, or a refusal
 pub data Recovering : Type 0 where
@@ -17,9 +17,9 @@ pub data Recovering : Type 0 where
   refused : (number value : ℕ) → Recovering
 
 -- the rules' answer for each case of the code's
-abbrev pub paper_recovered : Recovered → Recovering
-paper_recovered (At state excess dropped) = recovered state excess dropped
-paper_recovered (Refused r) = refused (number_of r) (value_of r)
+abbrev pub paper_recovered : Result Recovered Refusal → Recovering
+paper_recovered (Ok r) = recovered r.state r.excess r.dropped
+paper_recovered (Err r) = refused (number_of r) (value_of r)
 
 -- 6.6 "9 if its id is 2^64-1. The state is the length that is left, the id": of n bytes that are left
 unfoldable pub at_whole : ℕ → ℕ → ℕ → ℕ → Recovering

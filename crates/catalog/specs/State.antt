@@ -1,10 +1,10 @@
 -- Rules 1, "Pages, the store and the state", and Rules 5, "Take and raise": the state, and taking an id.
-use Rattle.std.specs.Prelude.{ℕ, ◌+◌, ◌-◌, ◌^◌, max, eqb, ltb}
+use Rattle.std.specs.Prelude.{ℕ, ◌+◌, ◌-◌, ◌^◌, max, eqb, ltb, Result, Ok, Err}
 use Rattle.refusal.specs.Pick.{pick}
 use Rattle.refusal.specs.Refusal.{number_of, value_of}
+use Rattle.refusal.specs.declared.Refusal.{Refusal}
 use Rattle.catalog.specs.declared.state.State.{State}
 use Rattle.catalog.specs.declared.state.Taken.{Taken}
-use Rattle.catalog.specs.declared.state.Taken.TheVariants.{Id, Refused}
 
 -- 1.9 "four 64-bit numbers: length; last written, an id; next, the id to hand out next; and the ceiling"
 abbrev pub state_of : ℕ → ℕ → ℕ → ℕ → State
@@ -43,6 +43,6 @@ take_of st =
     (refused 30 0))
 
 -- the rules' answer for each case of the code's
-abbrev pub paper_taken : Taken → Taking
-paper_taken (Id id state) = taken id state
-paper_taken (Refused r) = refused (number_of r) (value_of r)
+abbrev pub paper_taken : Result Taken Refusal → Taking
+paper_taken (Ok t) = taken t.id t.state
+paper_taken (Err r) = refused (number_of r) (value_of r)

@@ -9,113 +9,81 @@ use crate::bounds;
 use page::{Entry, Mark, Page};
 use refusal::Refusal;
 
+// A page that was read has no fault: where to go on, and the last id before that page.
 #[derive(Clone, Copy)]
-pub enum Checked {
-    Sound,
-    Refused(Refusal),
-}
-
-// What a page that was read says: where to go on and the last id before that page, or a fault.
-#[derive(Clone, Copy)]
-enum Passed {
-    On { page: usize, last: u64 },
-    Fault(Refusal),
+struct Passed {
+    page: usize,
+    last: u64,
 }
 
 // The marks of the later pages of the entry with this id, from page `from` to the page after it.
-fn later_marks(log: &[u8], id: u64, from: usize, after: usize) -> Passed
+fn later_marks(log: &[u8], id: u64, from: usize, after: usize) -> Result<Passed, Refusal>
     requires { (from ≤ after) × (after ≤ page_count log.now) }
     ensures { paper_passed result ≡ later_marks log.now id (after - from) from }
 {
-    let mut p = from;
-    while p < after {
-        let mark = Mark::read(log, p);
-        match mark {
-            Mark::Start => {
-                return Passed::Fault(Refusal::Overlap { page: p as u64 });
-            }
-            Mark::Bad => {
-                return Passed::Fault(Refusal::BadMark { page: p as u64 });
-            }
-            Mark::Later => {
-                p += 1;
-            }
+    for p in from..after {
+        match Mark::read(log, p)? {
+            Mark::Start => return Err(Refusal::Overlap { page: p as u64 }),
+            Mark::Later => {}
         }
     }
-    Passed::On { page: p, last: id }
+    Ok(Passed {
+        page: after,
+        last: id,
+    })
 }
 
 // A page with mark 1 that is no later page of an entry.
-fn check_start(log: &[u8], p: usize, last: u64) -> Passed
+#[tactic(auto, unfolding(crate::specs::Check::check_start))]
+fn check_start(log: &[u8], p: usize, last: u64) -> Result<Passed, Refusal>
     requires { p < page_count log.now }
     ensures { paper_passed result ≡ check_start log.now p last (entry_at log.now p) }
 {
-    let entry = Entry::read(log, p);
-    match entry {
-        Entry::Short => Passed::Fault(Refusal::ShortEntry { page: p as u64 }),
-        Entry::Cut { id: _ } => Passed::Fault(Refusal::CutEntry { page: p as u64 }),
-        Entry::Whole {
-            id,
-            length: _,
-            after,
-        } => {
-            if id <= last {
-                return Passed::Fault(Refusal::NotAscending { page: p as u64 });
-            }
-            later_marks(log, id, p + 1, after)
-        }
+    let whole = Entry::read(log, p).whole(p)?;
+    if whole.id <= last {
+        return Err(Refusal::NotAscending { page: p as u64 });
     }
+    later_marks(log, whole.id, p + 1, whole.after)
 }
 
 // A page that is no later page of an entry.
-fn check_page(log: &[u8], p: usize, last: u64) -> Passed
+#[tactic(auto, unfolding(crate::specs::Check::check_page))]
+fn check_page(log: &[u8], p: usize, last: u64) -> Result<Passed, Refusal>
     requires { p < page_count log.now }
     ensures { paper_passed result ≡ check_page log.now p last }
 {
-    let mark = Mark::read(log, p);
-    match mark {
+    match Mark::read(log, p)? {
         Mark::Start => check_start(log, p, last),
-        Mark::Bad => Passed::Fault(Refusal::BadMark { page: p as u64 }),
-        Mark::Later => {
-            if p == 0 {
-                return Passed::Fault(Refusal::NoEntries { page: 0 });
-            }
-            Passed::On { page: p + 1, last }
-        }
+        Mark::Later if p == 0 => Err(Refusal::NoEntries { page: 0 }),
+        Mark::Later => Ok(Passed { page: p + 1, last }),
     }
 }
 
 // Every whole page, then the excess.
-fn check_pages(log: &[u8]) -> Checked
+fn check_pages(log: &[u8]) -> Result<(), Refusal>
     ensures { paper_checked result ≡ check_log log.now }
 {
     let count = Page::count(log);
     let mut p = 0;
     let mut last = 0;
     while p < count {
-        let passed = check_page(log, p, last);
-        match passed {
-            Passed::Fault(r) => {
-                return Checked::Refused(r);
-            }
-            Passed::On { page, last: id } => {
-                p = page;
-                last = id;
-            }
-        }
+        let passed = check_page(log, p, last)?;
+        p = passed.page;
+        last = passed.last;
     }
-    if log.len() % Page::SIZE != 0 {
-        return Checked::Refused(Refusal::CutEntry { page: count as u64 });
+    if !log.len().is_multiple_of(Page::SIZE) {
+        return Err(Refusal::CutEntry { page: count as u64 });
     }
-    Checked::Sound
+    Ok(())
 }
 
 // Whether the first `length` bytes of a store are a sound log.
-pub fn check(store: &[u8], length: u64) -> Checked
+#[tactic(auto, unfolding(crate::specs::Check::check_of, crate::specs::Bounds::too_long))]
+pub fn check(store: &[u8], length: u64) -> Result<(), Refusal>
     ensures { paper_checked result ≡ check_of store.now length }
 {
     if bounds::is_too_long(store, length) {
-        return Checked::Refused(Refusal::BadState);
+        return Err(Refusal::BadState);
     }
     let n = length as usize;
     check_pages(&store[..n])

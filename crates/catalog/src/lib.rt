@@ -3,12 +3,14 @@
 
 mod bounds;
 mod checking;
+mod log;
 mod recovery;
 mod searching;
 mod state;
 
 pub use bounds::{is_bad_cursor, is_bad_state};
-pub use checking::{Checked, check};
+pub use checking::check;
+pub use log::Log;
 pub use recovery::{Recovered, recover};
-pub use searching::{Look, find, lookup};
-pub use state::{Raised, State, Taken};
+pub use searching::Look;
+pub use state::{State, Taken};

@@ -5,7 +5,7 @@ ghost use Rattle.catalog.specs.Raise.{bad_step, raise_of, paper_raised};
 
 use refusal::Refusal;
 
-#[derive(Clone, Copy)]
+#[derive(Clone, Copy, Debug, PartialEq, Eq)]
 pub struct State {
     pub length: u64,
     pub last: u64,
@@ -13,18 +13,11 @@ pub struct State {
     pub ceiling: u64,
 }
 
-// An id handed out with the state after it, or a refusal that changes nothing.
-#[derive(Clone, Copy)]
-pub enum Taken {
-    Id { id: u64, state: State },
-    Refused(Refusal),
-}
-
-// The state with a higher ceiling, to be stored before it is used, or a refusal that changes nothing.
-#[derive(Clone, Copy)]
-pub enum Raised {
-    To { state: State },
-    Refused(Refusal),
+// An id handed out, with the state after it.
+#[derive(Clone, Copy, Debug, PartialEq, Eq)]
+pub struct Taken {
+    pub id: u64,
+    pub state: State,
 }
 
 // The id that is never handed out, and the highest ceiling.
@@ -34,16 +27,11 @@ pub(crate) const TOP_ID: u64 = 0xffff_ffff_ffff_ffff;
 const MOST_RAISED: u64 = 0x1_0000_0000;
 
 // The step is 0 or too large, or the ceiling cannot grow by it.
+#[tactic(auto, unfolding(crate::specs::Raise::bad_step))]
 fn is_bad_step(ceiling: u64, step: u64) -> bool
     ensures { result ≡ bad_step ceiling step }
 {
-    if step < 1 {
-        return true;
-    }
-    if MOST_RAISED < step {
-        return true;
-    }
-    TOP_ID - ceiling < step
+    step == 0 || MOST_RAISED < step || TOP_ID - ceiling < step
 }
 
 impl State {
@@ -77,15 +65,11 @@ impl State {
     pub(crate) fn resumed_above(self, stored: u64) -> State
         ensures { result ≡ resumed_above stored self }
     {
-        let mut next = self.next;
-        if next < stored {
-            next = stored;
-        }
+        let next = self.next.max(stored);
         State {
-            length: self.length,
-            last: self.last,
             next,
             ceiling: next,
+            ..self
         }
     }
 
@@ -96,49 +80,41 @@ impl State {
         State {
             length,
             last,
-            next: self.next,
-            ceiling: self.ceiling,
+            ..self
         }
     }
 
-    // Hands out the next id.
-    pub fn take(self) -> Taken
+    // Hands out the next id; a refusal changes nothing.
+    #[tactic(auto, unfolding(crate::specs::State::take_of))]
+    pub fn take(self) -> Result<Taken, Refusal>
         ensures { paper_taken result ≡ take_of self }
     {
-        let next = self.next;
-        let ceiling = self.ceiling;
-        if next == TOP_ID {
-            return Taken::Refused(Refusal::IdsUsedUp);
+        if self.next == TOP_ID {
+            return Err(Refusal::IdsUsedUp);
         }
-        if next >= ceiling {
-            return Taken::Refused(Refusal::CeilingReached);
+        if self.next >= self.ceiling {
+            return Err(Refusal::CeilingReached);
         }
-        Taken::Id {
-            id: next,
+        Ok(Taken {
+            id: self.next,
             state: State {
-                length: self.length,
-                last: self.last,
-                next: next + 1,
-                ceiling,
+                next: self.next + 1,
+                ..self
             },
-        }
+        })
     }
 
-    // Raises the ceiling by a step.
-    pub fn raise(self, step: u64) -> Raised
+    // Raises the ceiling by a step, to be stored before it is used; a refusal changes nothing.
+    #[tactic(auto, unfolding(crate::specs::Raise::raise_of, crate::specs::Raise::bad_step))]
+    pub fn raise(self, step: u64) -> Result<State, Refusal>
         ensures { paper_raised result ≡ raise_of self step }
     {
-        let ceiling = self.ceiling;
-        if is_bad_step(ceiling, step) {
-            return Raised::Refused(Refusal::BadRaise);
+        if is_bad_step(self.ceiling, step) {
+            return Err(Refusal::BadRaise);
         }
-        Raised::To {
-            state: State {
-                length: self.length,
-                last: self.last,
-                next: self.next,
-                ceiling: ceiling + step,
-            },
-        }
+        Ok(State {
+            ceiling: self.ceiling + step,
+            ..self
+        })
     }
 }

@@ -8,9 +8,12 @@ use lib.ListN.{length, take}
 use native.Mathlib.Omega.{arith}
 use borrow.Author.Tests.{lt-ltb, le-ltb, le-leb, lt-leb, eq-eqb, ne_eqb}
 use Rattle.page.specs.Size.{page_size, page_count}
-use Rattle.page.specs.Mark.{mark_at}
+use Rattle.std.specs.Prelude.{Err}
+use Rattle.refusal.specs.Refusal.{number_of, value_of}
+use Rattle.refusal.specs.declared.Refusal.{Refusal}
+use Rattle.page.specs.Mark.{mark_at, mark_of}
 use Rattle.page.specs.Entry.{Starting, short, cut, whole, entry_at}
-use Rattle.page.proofs.Marking.{IsBad, mark_cases, by_start, by_later, by_bad}
+use Rattle.page.proofs.Marking.{IsBad, mark_cases, by_start, by_later, by_bad, read_by_bad}
 use Rattle.page.proofs.Starting.{IsWhole, is_whole, after_start}
 use Rattle.catalog.specs.Round.{Round, stop, again}
 use Rattle.catalog.specs.Bounds.{too_long}
@@ -28,6 +31,10 @@ module _ (log : List ℕ) (id : ℕ) where
   unfolding later_marks
   later_done k p z = rw z
 
+  -- no page is left
+  pub later_end : (after p : ℕ) → p ≡ after → later_marks log id (after - p) p ≡ again (checkpoint after id)
+  later_end after p e = rw e (later_done (after - after) after (omega arith))
+
   pub later_start : (k p : ℕ) → 0 < k → mark_at log p ≡ 1 → later_marks log id k p ≡ stop (refused 14 p)
   unfolding later_marks
   later_start zero p l m = absurd (omega arith)
@@ -37,6 +44,12 @@ module _ (log : List ℕ) (id : ℕ) where
   unfolding later_marks
   later_bad zero p l m = absurd (omega arith)
   later_bad (suc k) p l m = by_bad (mark_at log p) _ _ _ m
+
+  -- a fault that is passed on by `?`
+  pub later_fault : (k p : ℕ) (e : Refusal) → 0 < k → Err e ≡ mark_of p (mark_at log p) → stop (refused (number_of e) (value_of e)) ≡ later_marks log id k p
+  unfolding later_marks
+  later_fault zero p e l m = absurd (omega arith)
+  later_fault (suc k) p e l m = sym (read_by_bad p (mark_at log p) _ _ (λ r. stop (refused (number_of r) (value_of r))) m)
 
   pub later_on : (k j p : ℕ) → k ≡ suc j → mark_at log p ≡ 0 → later_marks log id k p ≡ later_marks log id j (p + 1)
   unfolding later_marks

@@ -13,30 +13,31 @@ use Rattle.catalog.specs.declared.state.State.{State}
 use Rattle.catalog.proofs.Laws.Output.{hand_small, hand_copied}
 use Rattle.catalog.proofs.Laws.Lookup.Positions.{found_whole}
 
-module _ (store : List ℕ) (st : State) (id : ℕ) (out : List ℕ) where
+module _ (store : List ℕ) (st : State) (id : ℕ) where
   abbrev log : List ℕ
   log = take st.length store
 
-  module _ (position len : ℕ) (f : find_of store st id ≡ found position len) where
-    -- the pages of its data, from the entry's page on or from one before it, lie in the log
-    pub data_within : (s : ℕ) → s ≤ position / page_size → s + pages_for_data len ≤ page_count log
-    data_within s p =
-        let h = found_whole store st id position len f in
-        rw h.size (omega (arith, h.at_page, h.within, after_data log h.page h.long))
+  -- the pages of the data that is found, from the entry's page on or from one before it, lie in the log
+  pub data_within : (position len : ℕ) → find_of store st id ≡ found position len → (s : ℕ) → s ≤ position / page_size → s + pages_for_data len ≤ page_count log
+  data_within position len f s p =
+      let h = found_whole store st id position len f in
+      rw h.size (omega (arith, h.at_page, h.within, after_data log h.page h.long))
 
-    pub found_small : length out < len → lookup_of store st id out ≡ with_output (refused 10 len) out
+  module _ (out : List ℕ) where
+    module _ (position len : ℕ) (f : find_of store st id ≡ found position len) where
+      pub found_small : length out < len → lookup_of store st id out ≡ with_output (refused 10 len) out
+      unfolding lookup_of hand_found
+      found_small l = rw f (hand_small refused (found position len) log (position / page_size) len out l)
+
+      -- s is the entry's page
+      pub found_copied : (s : ℕ) → s ≡ position / page_size → len ≤ length out → lookup_of store st id out ≡ with_output (found position len) (copied log s len out)
+      unfolding lookup_of hand_found
+      found_copied s p l = rw (f, p) (hand_copied refused (found position len) log (position / page_size) len out l)
+
+    pub absent_nothing : (position : ℕ) → find_of store st id ≡ absent position → lookup_of store st id out ≡ with_output (absent position) out
     unfolding lookup_of hand_found
-    found_small l = rw f (hand_small refused (found position len) log (position / page_size) len out l)
+    absent_nothing position f = rw f
 
-    -- s is the entry's page
-    pub found_copied : (s : ℕ) → s ≡ position / page_size → len ≤ length out → lookup_of store st id out ≡ with_output (found position len) (copied log s len out)
+    pub refused_nothing : (number value : ℕ) → find_of store st id ≡ refused number value → lookup_of store st id out ≡ with_output (refused number value) out
     unfolding lookup_of hand_found
-    found_copied s p l = rw (f, p) (hand_copied refused (found position len) log (position / page_size) len out l)
-
-  pub absent_nothing : (position : ℕ) → find_of store st id ≡ absent position → lookup_of store st id out ≡ with_output (absent position) out
-  unfolding lookup_of hand_found
-  absent_nothing position f = rw f
-
-  pub refused_nothing : (number value : ℕ) → find_of store st id ≡ refused number value → lookup_of store st id out ≡ with_output (refused number value) out
-  unfolding lookup_of hand_found
-  refused_nothing number value f = rw f
+    refused_nothing number value f = rw f

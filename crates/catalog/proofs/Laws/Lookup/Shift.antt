@@ -8,7 +8,7 @@ use borrow.Author.Tests.{lt-ltb, le-ltb}
 use lib.Pow.{pow_pos, pow_mono, pow-add}
 use lib.Count.{count_leading_zeros, leading_top}
 use Rattle.catalog.specs.Guess.{shifted_right, least_from, least_shift}
-use Rattle.refusal.proofs.Cases.{order}
+use Rattle.refusal.proofs.Cases.{order, side}
 
 -- k bits leave y below 2^32, and no fewer do
 pub record Least (y k : ℕ) : Type 0 where
@@ -41,7 +41,7 @@ shift y k m g l = record {
   some = (le-div_iff_mul-le (pow_pos k)).1 (omega arith);
 }
 
-pub shift_some : (y : ℕ) → 0 < y → y < 2 ^ 64 → count_leading_zeros 64 y < 32 → Shift y (32 - count_leading_zeros 64 y)
+shift_some : (y : ℕ) → 0 < y → y < 2 ^ 64 → count_leading_zeros 64 y < 32 → Shift y (32 - count_leading_zeros 64 y)
 shift_some y p h z =
     let top = leading_top 64 y p h in
     let k : ℕ = 32 - count_leading_zeros 64 y in
@@ -54,7 +54,7 @@ shift_some y p h z =
       least = λ t l. (le-div_iff_mul-le (pow_pos t)).1 (omega (arith, pow-add 2 32 t, pow_mono {i = 32 + t} {j = 31 + k} (omega arith)));
     })
 
-pub shift_none : (y : ℕ) → 0 < y → y < 2 ^ 64 → 32 ≤ count_leading_zeros 64 y → Shift y 0
+shift_none : (y : ℕ) → 0 < y → y < 2 ^ 64 → 32 ≤ count_leading_zeros 64 y → Shift y 0
 shift_none y p h z =
     let top = leading_top 64 y p h in
     shift y 0 (omega arith) (omega arith)
@@ -62,3 +62,10 @@ shift_none y p h z =
       below = omega (arith, pow_mono {i = suc top.0} {j = 32} (omega arith));
       least = λ t l. absurd (omega arith);
     })
+
+-- the shift that the code takes
+pub code_shift : (y k : ℕ) → 0 < y → y < 2 ^ 64 → k ≡ 32 - count_leading_zeros 64 y → Shift y k
+code_shift y k p h e = ⊎_elim
+    (λ z. rw e (shift_some y p h z))
+    (λ z. let q : k ≡ 0 = omega arith in rw q (shift_none y p h z))
+    (side (count_leading_zeros 64 y) 32)

@@ -8,9 +8,12 @@ use lib.Seq.{take_all, take-take}
 use native.Mathlib.Omega.{arith}
 use borrow.Author.Tests.{eq-eqb, ne_eqb}
 use Rattle.page.specs.Size.{page_size, page_count, page_at}
-use Rattle.page.specs.Mark.{mark_at}
+use Rattle.std.specs.Prelude.{Err}
+use Rattle.refusal.specs.Refusal.{number_of, value_of}
+use Rattle.refusal.specs.declared.Refusal.{Refusal}
+use Rattle.page.specs.Mark.{mark_at, mark_of}
 use Rattle.page.specs.Entry.{Starting, short, cut, whole, entry_at}
-use Rattle.page.proofs.Marking.{IsBad, by_start, by_later, by_bad}
+use Rattle.page.proofs.Marking.{IsBad, by_start, by_later, by_bad, is_bad, names_mark}
 use Rattle.page.proofs.Paging.{page_kept}
 use Rattle.page.proofs.Reading.{mark_same}
 use Rattle.catalog.specs.Bounds.{Fits, too_long}
@@ -125,8 +128,11 @@ module _ (log : List ℕ) (excess left q : ℕ) (b : BackLoop log excess left q)
       same = rw f (sym (back_later (page_count log) excess (first_pages log left) p q e (sym mark_left ∙ m)) ∙ b.same);
     }
 
-    pub ends_bad : IsBad (mark_at log p) → refused 5 p ≡ recover_log log excess
-    ends_bad m = sym (back_bad (page_count log) excess (first_pages log left) p q e (rw mark_left at m)) ∙ b.same
+    -- a bad mark, passed on by `?`
+    pub ends_fault : (r : Refusal) → Err r ≡ mark_of p (mark_at log p) → refused (number_of r) (value_of r) ≡ recover_log log excess
+    ends_fault r m =
+        rw (names_mark p (mark_at log p) m)
+        (sym (back_bad (page_count log) excess (first_pages log left) p q e (rw mark_left at (is_bad p (mark_at log p) m))) ∙ b.same)
 
     -- if it is a start, what starts there is read at page s, in a part of w bytes, which is what is left; the part's length only shows w to the checker
     module _ (m : mark_at log p ≡ 1) (w : ℕ) (size : w ≡ length (take w log)) (part : w ≡ left * page_size) (s : ℕ) (g : s ≡ p) where

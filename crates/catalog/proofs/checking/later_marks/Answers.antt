@@ -1,21 +1,24 @@
 -- `later_marks` meets its contract: the pages from here on say what those from the first on say. Assumes nothing.
 use mathlib.Core.Path.{sym, ◌∙◌}
 use native.Mathlib.Omega.{arith}
-use Rattle.page.proofs.Marking.{is_start, is_later, is_bad}
-use Rattle.catalog.proofs.Laws.Check.Steps.{later_from, later_done, later_start, later_bad, later_on}
+use Rattle.std.proofs.lemmas.Result.{err_from_is_err_and}
+use Rattle.page.proofs.Marking.{is_start, is_later}
+use Rattle.catalog.proofs.Laws.Check.Steps.{later_from, later_end, later_start, later_fault, later_on}
 use Rattle.catalog.proofs.checking.later_marks.Goals as goal
 
 pub loop-p-init : goal.loop-p-init
-loop-p-init c = (omega arith, later_from _ _ _ _ _ (omega arith))
+loop-p-init c = later_from _ _ _ _ _ (omega arith)
+
+pub returns-in_err-read : goal.returns-in_err-read
+returns-in_err-read c =
+    let e = err_from_is_err_and c.from_residual.result c.from_residual.ensures.1 in
+    rw (e.1, e.2) (later_fault _ _ _ _ _ (omega arith) c.in_err-read.ensures ∙ c.loop-p.invariant)
 
 pub returns-in-Start : goal.returns-in-Start
-returns-in-Start c = sym (later_start _ _ _ _ (omega arith) (is_start _ (sym c.in-Start.ensures))) ∙ c.loop-p.invariant.1
-
-pub returns-in-Bad : goal.returns-in-Bad
-returns-in-Bad c = sym (later_bad _ _ _ _ (omega arith) (is_bad _ (sym c.in-Bad.ensures))) ∙ c.loop-p.invariant.1
+returns-in-Start c = sym (later_start _ _ _ _ (omega arith) (is_start _ _ (rw c.in-Start.is at c.in_ok-read.ensures))) ∙ c.loop-p.invariant
 
 pub loop-p-preserved : goal.loop-p-preserved
-loop-p-preserved c = (omega arith, sym (later_on _ _ _ _ _ (omega arith) (is_later _ (sym c.in-Later.ensures))) ∙ c.loop-p.invariant.1)
+loop-p-preserved c = sym (later_on _ _ _ _ _ (omega arith) (is_later _ _ (rw c.in-Later.is at c.in_ok-read.ensures))) ∙ c.loop-p.invariant
 
 pub returns : goal.returns
-returns c = sym (later_done _ _ _ _ (omega arith)) ∙ c.loop-p.invariant.1
+returns c = sym (later_end _ _ _ _ (omega arith)) ∙ c.loop-p.invariant

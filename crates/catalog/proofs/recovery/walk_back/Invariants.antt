@@ -4,6 +4,3 @@ use Rattle.catalog.proofs.recovery.walk_back.Given as goal
 
 abbrev pub invariant-loop-p : goal.invariant-loop-p
 invariant-loop-p l = BackLoop l.log l.excess l.left l.p
-
-abbrev pub decreases-loop-p : goal.decreases-loop-p
-decreases-loop-p l = l.p

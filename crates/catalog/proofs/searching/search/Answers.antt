@@ -2,6 +2,7 @@
 use Prim.Native.Nat.{ℕ, ◌+◌}
 use mathlib.Core.Path.{refl, ap}
 use native.Mathlib.Omega.{arith}
+use Rattle.std.proofs.lemmas.Result.{err_from_is_err_and}
 use Rattle.catalog.specs.Lookup.{Window, window, guess_in}
 use Rattle.catalog.proofs.Laws.Lookup.Rounds.{InWindow, guess_inside}
 use Rattle.catalog.proofs.Laws.Lookup.Windows as windows
@@ -10,7 +11,7 @@ use Rattle.catalog.proofs.searching.search.Goals as goal
 use Rattle.catalog.proofs.searching.search.Goals.{After-offset}
 
 pub window-init : goal.window-init
-window-init c = windows.opened _ _ _ _ _ c.count-hi.ensures (omega arith) (omega arith) refl
+window-init c = windows.opened _ _ _ _ c.count-hi.ensures (omega arith) (omega arith)
 
 abbrev window_of : After-offset → Window
 window_of c = window c.window.lo c.window.hi c.window.a c.window.b
@@ -24,29 +25,29 @@ overflow_add-g c = omega (arith, (inside c).high)
 pub back-init : goal.back-init
 back-init c = (refl, refl, windows.guessed _ c.window.invariant (omega arith) (ap (λ (o : ℕ). c.window.lo + o) c.offset.ensures))
 
-pub window-preserved-then-after-g : goal.window-preserved-then-after-g
-window-preserved-then-after-g c =
-    windows.page_below c.back.invariant.2 _ _ _ c.in-Below.ensures (omega arith)
-
-pub window-preserved-else-after-g : goal.window-preserved-else-after-g
-window-preserved-else-after-g c =
-    windows.page_below c.back.invariant.2 _ _ _ c.in-Below.ensures (omega arith)
+pub window-preserved-in-Below : goal.window-preserved-in-Below
+window-preserved-in-Below c =
+    windows.page_below c.back.invariant.2 _ _ _ (rw c.in-Below.is at c.in_ok-position.ensures) (omega (arith, c.max-lo.ensures))
 
 pub window-preserved-in-Above : goal.window-preserved-in-Above
 window-preserved-in-Above c =
-    windows.page_above c.back.invariant.2 _ _ c.in-Above.ensures refl
+    windows.page_above c.back.invariant.2 _ (rw c.in-Above.is at c.in_ok-position.ensures)
 
 pub window-preserved : goal.window-preserved
 window-preserved c =
-    windows.none_back c.back.invariant.2 _ (omega arith) (omega arith) c.in-Back.ensures
+    windows.none_back c.back.invariant.2 _ (omega arith) (omega arith) (rw c.in-Back.is at c.in_ok-position.ensures)
 
 pub back-preserved : goal.back-preserved
 back-preserved c =
-    (c.back.invariant.0, c.back.invariant.1, windows.further_back c.back.invariant.2 (omega arith) c.in-Back.ensures)
+    (c.back.invariant.0, c.back.invariant.1, windows.further_back c.back.invariant.2 (omega arith) (rw c.in-Back.is at c.in_ok-position.ensures))
 
-pub returns-after-window : goal.returns-after-window
-returns-after-window c = windows.window_empty c.window.invariant (omega arith)
+pub returns : goal.returns
+returns c = windows.window_empty c.window.invariant (omega arith)
 
-pub returns-in-End : goal.returns-in-End
-returns-in-End c =
-    windows.page_ends c.back.invariant.2 c.in-End.look c.in-End.ensures
+pub returns-in-Here : goal.returns-in-Here
+returns-in-Here c = windows.page_ends c.back.invariant.2 _ (rw c.in-Here.is at c.in_ok-position.ensures)
+
+pub returns-in_err-position : goal.returns-in_err-position
+returns-in_err-position c =
+    let e = err_from_is_err_and c.from_residual.result c.from_residual.ensures.1 in
+    rw (e.1, e.2) (windows.page_ends c.back.invariant.2 _ c.in_err-position.ensures)

@@ -5,13 +5,13 @@ use Rattle.catalog.proofs.Laws.Lookup.Windows.{WindowLoop, BackLoop}
 use Rattle.catalog.proofs.searching.search.Given as goal
 
 abbrev pub invariant-back : goal.invariant-back
-invariant-back l = (l.lo ≡ l.initial.lo) × (l.hi ≡ l.initial.hi) × BackLoop l.log l.next l.id l.lo l.hi l.a l.b l.answer l.g l.s
+invariant-back l = (l.lo ≡ l.initial.lo) × (l.hi ≡ l.initial.hi) × BackLoop l.log l.next l.id l.lo l.hi l.a l.b l.g l.s
 
 abbrev pub decreases-back : goal.decreases-back
 decreases-back l = l.s
 
 abbrev pub invariant-window : goal.invariant-window
-invariant-window l = WindowLoop l.log l.next l.id l.lo l.hi l.a l.b l.answer
+invariant-window l = WindowLoop l.log l.next l.id l.lo l.hi l.a l.b
 
 abbrev pub decreases-window : goal.decreases-window
 decreases-window l = l.hi - l.lo
