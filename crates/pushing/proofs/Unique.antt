@@ -3,20 +3,20 @@ use Prim.Native.Nat.{ℕ}
 use mathlib.Core.Path.{◌≡◌, refl, sym, ap, ◌∙◌}
 use mathlib.Core.List.{List}
 use native.Mathlib.Omega.{arith}
+use Rattle.std.proofs.Common.{Option, None, Some}
 use Rattle.refusal.proofs.Unique.{refusal_unique}
+use Rattle.refusal.specs.declared.Refusal.{Refusal}
 use Rattle.catalog.specs.declared.state.State.{State}
 use Rattle.pushing.specs.Push.{Pushing, paper_reason, paper_pushed, push_of}
-use Rattle.pushing.specs.declared.Reason.{Reason}
-use Rattle.pushing.specs.declared.Reason.TheVariants.{None, Refused as Unpushed}
 use Rattle.pushing.specs.declared.Pushed.{Pushed}
 
-pub reason_unique : (r s : Reason) → paper_reason r ≡ paper_reason s → r ≡ s
+pub reason_unique : (r s : Option Refusal) → paper_reason r ≡ paper_reason s → r ≡ s
 reason_unique None None e = refl
-reason_unique None (Unpushed r') e = absurd (let z : ◌≡◌ {A = ℕ} 0 1 = cc in omega arith)
-reason_unique (Unpushed r) None e = absurd (let z : ◌≡◌ {A = ℕ} 0 1 = cc in omega arith)
-reason_unique (Unpushed r) (Unpushed r') e = ap Unpushed (refusal_unique r r' (cc) (cc))
+reason_unique None (Some r') e = absurd (let z : ◌≡◌ {A = ℕ} 0 1 = cc in omega arith)
+reason_unique (Some r) None e = absurd (let z : ◌≡◌ {A = ℕ} 0 1 = cc in omega arith)
+reason_unique (Some r) (Some r') e = ap Some (refusal_unique r r' (cc) (cc))
 
-made : (r s : Reason) (m n : ℕ) (a b : State) → r ≡ s → m ≡ n → a ≡ b → ◌≡◌ {A = Pushed} (record { reason = r; written = m; state = a }) (record { reason = s; written = n; state = b })
+made : (r s : Option Refusal) (m n : ℕ) (a b : State) → r ≡ s → m ≡ n → a ≡ b → ◌≡◌ {A = Pushed} (record { reason = r; written = m; state = a }) (record { reason = s; written = n; state = b })
 made r s m n a b e f g = rw (e, f, g)
 
 pub pushed_unique : (r s : Pushed) → paper_pushed r ≡ paper_pushed s → r ≡ s

@@ -1,15 +1,14 @@
 -- Rules 4, "Push": what a push of a batch answers and leaves in the store, entry by entry.
-use Rattle.std.specs.Prelude.{ℕ, zero, suc, ◌+◌, ◌-◌, ◌*◌, Bool, false, not, ◌||◌, List, ◌++◌, ltb, leb, eqb, length, get_or, take, drop}
+use Rattle.std.specs.Prelude.{ℕ, zero, suc, ◌+◌, ◌-◌, ◌*◌, Bool, false, not, ◌||◌, List, ◌++◌, Option, None, Some, ltb, leb, eqb, length, get_or, take, drop}
 use Rattle.refusal.specs.Pick.{pick}
 use Rattle.refusal.specs.Refusal.{number_of, value_of}
+use Rattle.refusal.specs.declared.Refusal.{Refusal}
 use Rattle.page.specs.Size.{page_size, id_size, payload_end, data_end, pages_for_data}
 use Rattle.page.specs.Write.{overwritten, entry_pages}
 use Rattle.catalog.specs.Round.{Round, stop, again, follow}
 use Rattle.catalog.specs.Bounds.{bad_state}
 use Rattle.catalog.specs.State.{moved_to}
 use Rattle.catalog.specs.declared.state.State.{State}
-use Rattle.pushing.specs.declared.Reason.{Reason}
-use Rattle.pushing.specs.declared.Reason.TheVariants.{None, Refused}
 use Rattle.pushing.specs.declared.Pushed.{Pushed}
 
 -- ---- the answer
@@ -29,9 +28,9 @@ abbrev pub pushing : Why → ℕ → State → Pushing
 pushing why n st = record { reason = why; written = n; state = st }
 
 -- the rules' reason for each case of the code's
-abbrev pub paper_reason : Reason → Why
+abbrev pub paper_reason : Option Refusal → Why
 paper_reason None = none
-paper_reason (Refused r) = refused (number_of r) (value_of r)
+paper_reason (Some r) = refused (number_of r) (value_of r)
 
 -- the rules' answer for the code's
 abbrev pub paper_pushed : Pushed → Pushing

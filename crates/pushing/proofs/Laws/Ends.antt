@@ -1,16 +1,16 @@
 -- What the tests 13 and 16 say of a batch's ends. Assumes nothing.
-use Prim.Native.Nat.{ℕ, zero, suc, ◌+◌, ◌-◌, ◌≤◌, ◌<◌}
-use mathlib.Core.Path.{◌≡◌, refl}
-use mathlib.Core.Bool.{Bool, true, false, not, or-true}
+use Prim.Native.Nat.{ℕ, zero, suc, ◌-◌, ◌≤◌, ◌<◌}
+use mathlib.Core.Path.{◌≡◌, refl, sym}
+use mathlib.Core.Bool.{Bool, true, false, not, ◌||◌, or-true}
 use mathlib.Core.Logic.{⊎_elim}
 use mathlib.Core.List.{List}
 use native.Mathlib.Omega.{arith}
-use native.Mathlib.Numerals.{add-one}
-use borrow.Author.Tests.{ltb-false, eqb-true, not-false, lt-ltb, le-ltb, eq-eqb, ne_eqb}
+use borrow.Author.Tests.{ltb-false, eqb-true, not-false, eq-eqb, ne_eqb}
+use Rattle.std.proofs.Common.{MatchBool}
 use lib.Dec.{ltb, eqb}
 use lib.ListN.{length, get_or, length-take, length-drop}
 use Rattle.page.specs.Size.{data_end}
-use Rattle.pushing.specs.Push.{before, entry_data, some, bad_end, bad_batch, large_data, some_large}
+use Rattle.pushing.specs.Push.{before, entry_data, some, bad_end, bad_batch, large_data}
 use Rattle.refusal.proofs.Cases.{side}
 use Rattle.catalog.proofs.Laws.Bounds.{neither}
 
@@ -32,13 +32,16 @@ module _ (test : ℕ → Bool) where
       let both = neither (some test n) (test n) e in
       ⊎_elim (λ s. some_not n k both.0 s) (λ s. let q : k ≡ n = omega arith in rw q both.1) (side k n)
 
-  pub some_none : some test 0 ≡ false
+  pub some_none : (n : ℕ) → ((j : ℕ) → j < n → test j ≡ false) → some test n ≡ false
   unfolding some
-  some_none = refl
+  some_none zero f = refl
+  some_none (suc n) f = rw (some_none n (λ j l. f j (omega arith)), f n (omega arith))
 
-  pub some_on : (n : ℕ) → some test n ≡ false → test n ≡ false → some test (n + 1) ≡ false
-  unfolding some
-  some_on n e f = rw (add-one, e, f)
+  -- what a search for a number that passes the test found
+  module _ {P Q : ℕ → Type 0} (n : ℕ) (yes : (j : ℕ) → j < n → P j → test j ≡ true) (no : (j : ℕ) → j < n → Q j → test j ≡ false) where
+    pub some_says : (r : Bool) → MatchBool r ((j : ℕ) × (j < n) × P j) ((j : ℕ) → j < n → Q j) → some test n ≡ r
+    some_says true e = some_found n e.0 e.1 (yes e.0 e.1 e.2)
+    some_says false e = some_none n (λ j l. no j l (e j l))
 
 -- ---- 13
 
@@ -47,29 +50,14 @@ module _ (ids ends bytes : List ℕ) where
   unfolding bad_batch
   bad_counts d = rw (ne_eqb (length ids) (length ends) d)
 
-  module _ (same : length ids ≡ length ends) where
-    -- what the ends say is all that is left to test
-    ends_decide : (t : Bool) → some (bad_end ends bytes) (length ends) ≡ t → bad_batch ids ends bytes ≡ t
-    unfolding bad_batch
-    ends_decide t e = rw (eq-eqb (length ids) (length ends) same, e)
+  -- what the ends say is all that is left to test
+  pub ends_decide : length ids ≡ length ends → (t : Bool) → some (bad_end ends bytes) (length ends) ≡ t → bad_batch ids ends bytes ≡ t
+  unfolding bad_batch
+  ends_decide same t e = rw (eq-eqb (length ids) (length ends) same, e)
 
-    pub bad_end_lem : (j : ℕ) → j < length ends → bad_end ends bytes j ≡ true → bad_batch ids ends bytes ≡ true
-    bad_end_lem j l e = ends_decide true (some_found (bad_end ends bytes) (length ends) j l e)
-
-    pub good_ends : (j : ℕ) → j ≡ length ends → some (bad_end ends bytes) j ≡ false → bad_batch ids ends bytes ≡ false
-    good_ends j l e = ends_decide false (rw l at e)
-
-pub end_falls : (ends bytes : List ℕ) (j : ℕ) → get_or ends j 0 < before ends j → bad_end ends bytes j ≡ true
+pub bad_end_says : (ends bytes : List ℕ) (j : ℕ) (b : Bool) → b ≡ (ltb (get_or ends j 0) (before ends j) || ltb (length bytes) (get_or ends j 0)) → bad_end ends bytes j ≡ b
 unfolding bad_end
-end_falls ends bytes j a = rw (lt-ltb (get_or ends j 0) (before ends j) a)
-
-pub end_beyond : (ends bytes : List ℕ) (j : ℕ) → length bytes < get_or ends j 0 → bad_end ends bytes j ≡ true
-unfolding bad_end
-end_beyond ends bytes j a = rw (lt-ltb (length bytes) (get_or ends j 0) a) (or-true (ltb (get_or ends j 0) (before ends j)))
-
-pub end_good : (ends bytes : List ℕ) (j : ℕ) → before ends j ≤ get_or ends j 0 → get_or ends j 0 ≤ length bytes → bad_end ends bytes j ≡ false
-unfolding bad_end
-end_good ends bytes j a b = rw (le-ltb (get_or ends j 0) (before ends j) a, le-ltb (length bytes) (get_or ends j 0) b)
+bad_end_says ends bytes j b e = sym e
 
 -- an entry's data lies in the batch data
 pub record DataLies (ends bytes : List ℕ) (j : ℕ) : Type 0 where
@@ -95,15 +83,6 @@ module _ (ids ends bytes : List ℕ) (good : bad_batch ids ends bytes ≡ false)
 
 -- ---- 16
 
-module _ (ends bytes : List ℕ) where
-  pub large_data_lem : (j : ℕ) → j < length ends → data_end < length (entry_data ends bytes j) → some_large ends bytes ≡ true
-  unfolding some_large large_data
-  large_data_lem j l a = some_found (large_data ends bytes) (length ends) j l (lt-ltb data_end (length (entry_data ends bytes j)) a)
-
-  pub small_data : (j : ℕ) → length (entry_data ends bytes j) ≤ data_end → large_data ends bytes j ≡ false
-  unfolding large_data
-  small_data j a = le-ltb data_end (length (entry_data ends bytes j)) a
-
-  pub none_large : (j : ℕ) → j ≡ length ends → some (large_data ends bytes) j ≡ false → some_large ends bytes ≡ false
-  unfolding some_large
-  none_large j l e = rw l at e
+pub large_data_says : (ids ends bytes : List ℕ) → bad_batch ids ends bytes ≡ false → (j : ℕ) → j < length ends → (b : Bool) → b ≡ ltb data_end (get_or ends j 0 - before ends j) → large_data ends bytes j ≡ b
+unfolding large_data
+large_data_says ids ends bytes good j l b e = rw ((data_lies ids ends bytes good j l).size) (sym e)

@@ -2,23 +2,24 @@
 use Prim.Native.Nat.{ℕ, suc, ◌+◌, ◌-◌, ◌<◌, ◌≤◌}
 use mathlib.Core.Path.{◌≡◌, refl, sym, ap, ◌∙◌}
 use mathlib.Core.Bool.{false}
-use mathlib.Core.List.{List, ◌++◌}
+use mathlib.Core.Logic.{◌⊎◌, inl, inr}
+use mathlib.Core.List.{List, [], ◌∷◌, ◌++◌}
 use native.Mathlib.Nat.{sub-zero}
 use native.Mathlib.Numerals.{add-one}
 use native.Mathlib.Omega.{arith}
-use lib.ListN.{length, get_or, take, drop}
-use lib.Seq.{drop-drop}
+use lib.ListN.{length, get_or, take, drop, length-drop}
+use lib.Seq.{drop-drop, drop-cons}
+use Rattle.std.proofs.Common.{Result, Ok, Err}
+use Rattle.refusal.specs.Refusal.{number_of, value_of}
+use Rattle.refusal.specs.declared.Refusal.{Refusal}
 use Rattle.page.specs.Size.{data_end}
 use Rattle.page.specs.Write.{overwritten, entry_pages}
 use Rattle.page.proofs.Parting.{put_back}
-use Rattle.catalog.specs.Round.{Round, stop, again, follow}
+use Rattle.catalog.specs.Round.{Round, again, follow}
 use Rattle.catalog.specs.State.{state_of, moved_to}
-use Rattle.pushing.specs.Push.{none, refused, Pushing, pushing, paper_pushed, before, entry_data, bad_batch, Point, point, bytes_for, wrote, Done, done, refuse, turn, entries_from}
-use Rattle.pushing.specs.Private.{paper_entry_turn}
+use Rattle.pushing.specs.Push.{none, refused, Pushing, pushing, before, entry_data, bad_batch, Point, point, bytes_for, wrote, Done, done, turn, entries_from}
 use Rattle.catalog.specs.declared.state.State.{State}
-use Rattle.pushing.specs.declared.EntryTurn.{EntryTurn}
-use Rattle.pushing.specs.declared.EntryTurn.TheVariants.{Written, Ended}
-use Rattle.pushing.specs.declared.Pushed.{Pushed}
+use Rattle.pushing.specs.Private.{paper_turn}
 use Rattle.pushing.proofs.Laws.Ends.{DataLies, good_counts, data_lies}
 use Rattle.pushing.proofs.Laws.Tests.{EntrySays, out_of_order, too_large, full_store, pages_fit, turn_write, entry_says}
 
@@ -27,14 +28,6 @@ use Rattle.pushing.proofs.Laws.Tests.{EntrySays, out_of_order, too_large, full_s
 module _ (st : State) (store : List ℕ) (j : ℕ) where
   abbrev this : Point
   this = point st store
-
-  -- a refusal ends the push: its number, and the state as it stood
-  pub ends_with : (number : ℕ) (a : Pushing) (k : ℕ) (st' : State) → a ≡ pushing (refused k 0) j st' → k ≡ number
-      → st'.length ≡ st.length → st'.last ≡ st.last → st'.next ≡ st.next → st'.ceiling ≡ st.ceiling
-      → stop (record { answer = a; store = store }) ≡ refuse number j this
-  ends_with number a k st' e f n l x y =
-      let s : state_of st'.length st'.last st'.next st'.ceiling ≡ st = rw (n, l, x, y) in
-      ap (λ (b : Pushing). stop (record { answer = b; store = store })) (e ∙ rw f (ap (pushing (refused number 0) j) s))
 
   -- the bytes of its pages, as the code has them
   module _ (id : ℕ) (d : List ℕ) (above : st.last < id) (small : length d < data_end) (k : ℕ) (e : k ≡ bytes_for d) where
@@ -62,81 +55,127 @@ turn_room j id d p q r l (pages_fit a b c) e =
     let n : q.state.length ≡ p.state.length + bytes_for d = ap (λ (x : Point). x.state.length) m in
     omega arith
 
+-- ---- what is left of a list at j, when its first is taken
+
+module _ (xs rest : List ℕ) (x j : ℕ) (left : x ∷ rest ≡ drop j xs) where
+  front_inside : j < length xs
+  front_inside = omega (arith, ap length left, length-drop j xs)
+
+  parted : x ∷ rest ≡ get_or xs j 0 ∷ drop (suc j) xs
+  parted = left ∙ drop-cons xs j 0 front_inside
+
+  front_is : x ≡ get_or xs j 0
+  front_is = ap (λ (l : List ℕ). get_or l 0 0) parted
+
+  rest_is : rest ≡ drop (suc j) xs
+  rest_is = ap (drop 1) parted
+
 -- ---- the loop
 
--- what the loop keeps
-pub record EntriesLoop (store₀ : List ℕ) (st₀ : State) (ids ends bytes store : List ℕ) (st : State) (from j : ℕ) : Type 0 where
+-- what the loop keeps: j entries are written, and those ids and ends are left
+pub record EntriesLoop (store₀ : List ℕ) (st₀ : State) (ids ends bytes store : List ℕ) (st : State) (from j : ℕ) (ids' ends' : List ℕ) : Type 0 where
   pub most : j ≤ length ids
-  pub good : bad_batch ids ends bytes ≡ false
-  pub counts : length ids ≡ length ends
+  pub ids_left : ids' ≡ drop j ids
+  pub ends_left : ends' ≡ drop j ends
   pub room : st.length ≤ length store
   pub long : length store ≡ length store₀
   pub from_is : from ≡ before ends j
   pub same : entries_from ids ends bytes (length ids - j) j (point st store) ≡ entries_from ids ends bytes (length ids) 0 (point st₀ store₀)
 
-pub entries_begin : (store : List ℕ) (st : State) (ids ends bytes : List ℕ) → st.length ≤ length store → bad_batch ids ends bytes ≡ false → EntriesLoop store st ids ends bytes store st 0 0
-entries_begin store st ids ends bytes l g =
-    record { most = omega arith; good = g; counts = good_counts ids ends bytes g; room = l; long = refl; from_is = refl; same = rw (sub-zero (length ids)) }
+pub entries_begin : (store : List ℕ) (st : State) (ids ends bytes ids' ends' : List ℕ) (j : ℕ) → st.length ≤ length store → ids' ≡ ids → ends' ≡ ends → j ≡ 0
+    → EntriesLoop store st ids ends bytes store st 0 j ids' ends'
+entries_begin store st ids ends bytes ids' ends' j l i e z =
+    rw z (record { most = omega arith; ids_left = i; ends_left = e; room = l; long = refl; from_is = refl; same = rw (sub-zero (length ids)) })
 
-module _ {store₀ : List ℕ} {st₀ : State} {ids ends bytes store : List ℕ} {st : State} {from j : ℕ} (h : EntriesLoop store₀ st₀ ids ends bytes store st from j) where
+module _ {store₀ : List ℕ} {st₀ : State} {ids ends bytes store : List ℕ} {st : State} {from j : ℕ} {ids' ends' : List ℕ} (good : bad_batch ids ends bytes ≡ false) (h : EntriesLoop store₀ st₀ ids ends bytes store st from j ids' ends') where
   abbrev whole : Done
   whole = entries_from ids ends bytes (length ids) 0 (point st₀ store₀)
 
   abbrev here : Point
   here = point st store
 
+  counts : length ids ≡ length ends
+  counts = good_counts ids ends bytes good
+
+  none_left : (ids' ≡ []) ⊎ (ends' ≡ []) → length ids ≤ j
+  none_left (inl e) = omega (arith, ap length (sym e ∙ h.ids_left), length-drop j ids)
+  none_left (inr e) = omega (arith, ap length (sym e ∙ h.ends_left), length-drop j ends, counts)
+
   -- no entry is left
-  pub entries_end : length ids ≤ j → (a : Pushing) (n : ℕ) → a ≡ pushing none n st → n ≡ j → (a ≡ whole.answer) × (store ≡ whole.store)
+  pub entries_end : (ids' ≡ []) ⊎ (ends' ≡ []) → (a : Pushing) (n : ℕ) → a ≡ pushing none n st → n ≡ length ids → (a ≡ whole.answer) × (store ≡ whole.store)
   unfolding entries_from
   entries_end l a n f q =
+      let m : length ids ≤ j = none_left l in
       let z : length ids - j ≡ 0 = omega arith in
+      let o : n ≡ j = omega (arith, h.most) in
       let w : done none j here ≡ whole = rw z at h.same in
-      (f ∙ rw q (ap (λ (y : Done). y.answer) w), ap (λ (y : Done). y.store) w)
+      (f ∙ rw o (ap (λ (y : Done). y.answer) w), ap (λ (y : Done). y.store) w)
 
-  module _ (more : j < length ids) where
+  -- the next entry's id and end
+  module _ (id end : ℕ) (ids'' ends'' : List ℕ) (e : ids' ≡ id ∷ ids'') (f : ends' ≡ end ∷ ends'') where
+    ids_from : id ∷ ids'' ≡ drop j ids
+    ids_from = sym e ∙ h.ids_left
+
+    ends_from : end ∷ ends'' ≡ drop j ends
+    ends_from = sym f ∙ h.ends_left
+
+    more : j < length ids
+    more = front_inside ids ids'' id j ids_from
+
+    id_is : id ≡ get_or ids j 0
+    id_is = front_is ids ids'' id j ids_from
+
+    end_is : end ≡ get_or ends j 0
+    end_is = front_is ends ends'' end j ends_from
+
     lie : DataLies ends bytes j
-    lie = data_lies ids ends bytes h.good j (omega (arith, h.counts))
+    lie = data_lies ids ends bytes good j (front_inside ends ends'' end j ends_from)
 
     -- where the entry's data lies, as the code has it
-    pub data_above : from ≤ get_or ends j 0
-    data_above = omega (arith, lie.above, h.from_is)
+    pub data_above : from ≤ end
+    data_above = omega (arith, lie.above, h.from_is, end_is)
 
-    pub data_inside : get_or ends j 0 ≤ length bytes
-    data_inside = lie.inside
+    pub data_inside : end ≤ length bytes
+    data_inside = omega (arith, lie.inside, end_is)
 
     abbrev left : ℕ
-    left = length ids - (j + 1)
+    left = length ids - suc j
 
     abbrev rest : Point → Done
     rest = entries_from ids ends bytes left (suc j)
 
-    -- the entry's turn as the code has it, then the rest
-    in_turn : (r : Round Done Point) → r ≡ turn j (get_or ids j 0) (take (get_or ends j 0 - from) (drop from bytes)) here → follow rest r ≡ whole
-    unfolding entries_from entry_data
-    in_turn r e =
-        let m : length ids - j ≡ suc left = omega arith in
-        ap (follow rest) e ∙ rw h.from_is (rw m at h.same)
+    -- the entry's turn, as the code has it
+    module _ (store' : List ℕ) (r : Result State Refusal) (turned : (n : ℕ) → paper_turn n st store' r ≡ turn n id (take (end - from) (drop from bytes)) here) where
+      turned_here : paper_turn j st store' r ≡ turn j (get_or ids j 0) (entry_data ends bytes j) here
+      unfolding entry_data
+      turned_here = rw (id_is, end_is, h.from_is) at (turned j)
 
-    -- entry n's turn, as the code has it
-    module _ (store' : List ℕ) (r : EntryTurn) (n : ℕ) (turned : paper_entry_turn store' r ≡ turn n (get_or ids j 0) (take (get_or ends j 0 - from) (drop from bytes)) here) (own : n ≡ j) where
-      turned_here : paper_entry_turn store' r ≡ turn j (get_or ids j 0) (take (get_or ends j 0 - from) (drop from bytes)) here
-      turned_here = rw own at turned
+      -- and then the rest
+      in_turn : follow rest (paper_turn j st store' r) ≡ whole
+      unfolding entries_from
+      in_turn =
+          let m : length ids - j ≡ suc left = omega (arith, more) in
+          ap (follow rest) turned_here ∙ (rw m at h.same)
 
-      pub entries_ended : (x : Pushed) → r ≡ Ended x → (paper_pushed x ≡ whole.answer) × (store' ≡ whole.store)
-      entries_ended x e =
-          let w : record { answer = paper_pushed x; store = store' } ≡ whole = in_turn _ (rw e at turned_here) in
-          (ap (λ (y : Done). y.answer) w, ap (λ (y : Done). y.store) w)
+      -- a refusal ends the push, with the state as it stood
+      pub entries_refused : (x : Refusal) → r ≡ Err x → (a : Pushing) (n : ℕ) (st' : State) → a ≡ pushing (refused (number_of x) (value_of x)) n st' → n ≡ j
+          → st'.length ≡ st.length → st'.last ≡ st.last → st'.next ≡ st.next → st'.ceiling ≡ st.ceiling
+          → (a ≡ whole.answer) × (store' ≡ whole.store)
+      entries_refused x e a n st' f q l y z w =
+          let s : state_of st'.length st'.last st'.next st'.ceiling ≡ st = rw (l, y, z, w) in
+          let o : done (refused (number_of x) (value_of x)) j (point st store') ≡ whole = rw e at in_turn in
+          (f ∙ rw (q, s) (ap (λ (y : Done). y.answer) o), ap (λ (y : Done). y.store) o)
 
-      pub entries_again : (st' : State) → r ≡ Written st' → length store' ≡ length store → (j' : ℕ) → j' ≡ j + 1 → EntriesLoop store₀ st₀ ids ends bytes store' st' (get_or ends j 0) j'
+      pub entries_again : (st' : State) → r ≡ Ok st' → length store' ≡ length store → (j' : ℕ) → j' ≡ j + 1 → EntriesLoop store₀ st₀ ids ends bytes store' st' end j' ids'' ends''
       entries_again st' e l j' z =
-          let t : again (point st' store') ≡ turn j (get_or ids j 0) (take (get_or ends j 0 - from) (drop from bytes)) here = rw e at turned_here in
+          let t : again (point st' store') ≡ turn j (get_or ids j 0) (entry_data ends bytes j) here = rw e at turned_here in
           let w : st'.length ≤ length store = turn_room j (get_or ids j 0) _ here (point st' store') _ h.room (entry_says j (get_or ids j 0) _ here) t in
-          rw z (record {
-            most = omega arith;
-            good = h.good;
-            counts = h.counts;
+          rw (z, add-one j) (record {
+            most = more;
+            ids_left = rest_is ids ids'' id j ids_from;
+            ends_left = rest_is ends ends'' end j ends_from;
             room = omega arith;
             long = l ∙ h.long;
-            from_is = rw add-one;
-            same = ap (λ (i : ℕ). entries_from ids ends bytes left i (point st' store')) (add-one j) ∙ in_turn _ t;
+            from_is = end_is;
+            same = rw e at in_turn;
           })

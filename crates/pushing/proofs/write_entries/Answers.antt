@@ -1,37 +1,53 @@
 -- `write_entries` meets its contract: what is left to do is what was to do. Assumes nothing.
 use mathlib.Core.Path.{refl}
 use native.Mathlib.Omega.{arith}
+use lib.ListN.{length}
+use Rattle.std.proofs.Common.{rules}
+use Rattle.std.specs.Iterator.Adapters.{enumerate_source}
+use Rattle.std.proofs.lemmas.Slice.Zip.{either_empty_from_Zip}
 use Rattle.pushing.specs.Push.{pushing, none}
-use Rattle.pushing.proofs.Laws.Entries.{entries_begin, data_above, data_inside, entries_ended, entries_again, entries_end}
+use Rattle.pushing.proofs.Laws.Entries.{entries_begin, data_above, data_inside, entries_refused, entries_again, entries_end}
 use Rattle.pushing.proofs.write_entries.Goals as goal
 
 pub loop-written-init : goal.loop-written-init
-loop-written-init c =
-    let p = c.requires in
-    entries_begin _ _ _ _ _ p.0 p.1
+loop-written-init c = (search rules, search rules, entries_begin _ _ _ _ _ _ _ _ c.requires (cc) (cc) (cc))
 
 pub slice_bounds-write_in_turn-count : goal.slice_bounds-write_in_turn-count
-slice_bounds-write_in_turn-count c = omega (arith, data_above c.loop-written.invariant (omega arith))
+slice_bounds-write_in_turn-count c =
+    let s = c.in-Some.ensures.steps in
+    data_above c.args.batch.good c.loop-written.invariant.2 _ _ _ _ s.0.0 s.0.1
 
 pub slice_bounds-write_in_turn-start : goal.slice_bounds-write_in_turn-start
 slice_bounds-write_in_turn-start c =
-    omega (arith, data_above c.loop-written.invariant (omega arith), data_inside c.loop-written.invariant (omega arith))
+    let s = c.in-Some.ensures.steps in
+    let h = c.loop-written.invariant.2 in
+    omega (arith, data_above c.args.batch.good h _ _ _ _ s.0.0 s.0.1, data_inside c.args.batch.good h _ _ _ _ s.0.0 s.0.1)
 
 pub slice_bounds-write_in_turn-end : goal.slice_bounds-write_in_turn-end
 slice_bounds-write_in_turn-end c =
-    omega (arith, data_above c.loop-written.invariant (omega arith), data_inside c.loop-written.invariant (omega arith))
+    let s = c.in-Some.ensures.steps in
+    let h = c.loop-written.invariant.2 in
+    omega (arith, data_above c.args.batch.good h _ _ _ _ s.0.0 s.0.1, data_inside c.args.batch.good h _ _ _ _ s.0.0 s.0.1)
 
-pub returns-in-Ended : goal.returns-in-Ended
-returns-in-Ended c =
-    let e = entries_ended c.loop-written.invariant (omega arith) _ _ _ c.write_in_turn.ensures refl _ c.in-Ended.is in
+pub returns-in-Err : goal.returns-in-Err
+returns-in-Err c =
+    let s = c.in-Some.ensures.steps in
+    let e =
+    entries_refused c.args.batch.good c.loop-written.invariant.2 _ _ _ _ s.0.0 s.0.1 _ _ c.write_in_turn.ensures _ c.in-Err.is
+    _ _ _ c.refused.ensures (omega (arith, s.1)) (omega arith) (omega arith) (omega arith) (omega arith) in
     record { result_value = e.0; store_after = e.1 }
 
 pub loop-written-preserved : goal.loop-written-preserved
 loop-written-preserved c =
-    entries_again c.loop-written.invariant (omega arith) _ _ _ c.write_in_turn.ensures (omega arith) _ c.in-Written.is (omega arith) _ (omega arith)
+    let s = c.in-Some.ensures.steps in (
+      search rules,
+      search rules,
+      entries_again c.args.batch.good c.loop-written.invariant.2 _ _ _ _ s.0.0 s.0.1 _ _ c.write_in_turn.ensures _ c.in-Ok.is (omega arith) _ s.2,
+    )
 
 pub returns : goal.returns
 returns c =
     let w = c.loop-written in
-    let e = entries_end w.invariant (omega arith) (pushing none w.written w.state) w.written refl refl in
+    let l = either_empty_from_Zip (enumerate_source w.written-iterator) (enumerate_source c.next.new.self) _ refl c.in-None.ensures.steps.0 in
+    let e = entries_end c.args.batch.good w.invariant.2 l (pushing none (length c.args.batch.ids.now) w.state) _ refl (omega arith) in
     record { result_value = e.0; store_after = e.1 }

@@ -1,11 +1,13 @@
 -- What the loop of `write_entries` keeps: what is left to do is what was to do. Assumes nothing.
-use Prim.Native.Nat.{◌-◌}
-use lib.ListN.{length}
+use Rattle.std.specs.Iterator.Adapters.{enumerate_source, enumerate_count, zip_first, zip_second}
+use Rattle.std.specs.Slice.Iter.{iter_rest}
 use Rattle.pushing.proofs.Laws.Entries.{EntriesLoop}
 use Rattle.pushing.proofs.write_entries.Given as goal
 
 abbrev pub invariant-loop-written : goal.invariant-loop-written
-invariant-loop-written l = EntriesLoop l.initial.store l.initial.state l.ids l.ends l.bytes l.store l.state l.from l.written
-
-abbrev pub decreases-loop-written : goal.decreases-loop-written
-decreases-loop-written l = length l.ids - l.written
+invariant-loop-written l =
+    let pairs = enumerate_source l.written-iterator in
+    (goal.iterator-loop-written).can_next l.written-iterator
+    × (goal.iterator-loop-written).is_finite l.written-iterator
+    × EntriesLoop l.initial.store l.initial.state l.batch.ids.now l.batch.ends.now l.batch.bytes.now l.store l.state l.from
+    (enumerate_count l.written-iterator) (iter_rest (zip_first pairs)) (iter_rest (zip_second pairs))
