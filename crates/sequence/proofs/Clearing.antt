@@ -1,13 +1,12 @@
 -- The bits from n on are cleared in the first words, one word at a time. Assumes nothing.
-use Prim.Native.Nat.{ℕ, zero, suc, ◌+◌, ◌-◌, ◌*◌, ◌/◌, ◌%◌, ◌^◌, ◌≤◌, ◌<◌, min, max}
+use Prim.Native.Nat.{ℕ, zero, suc, ◌+◌, ◌-◌, ◌*◌, ◌/◌, ◌^◌, ◌≤◌, ◌<◌, min, max}
 use mathlib.Core.Path.{◌≡◌, refl, sym, ap, ◌∙◌}
 use mathlib.Core.Logic.{⊎_elim}
 use mathlib.Core.List.{List, [], ◌∷◌}
-use native.Mathlib.Nat.{min-eq_right}
+use native.Mathlib.Numerals.{add-one}
 use native.Mathlib.Omega.{arith}
 use lib.Bits.{bit_and, and_mask}
-use lib.ListN.{length, get_or, set, length-set, get_or-eq_default}
-use lib.Seq.{ext_get_or, set_out, get_or-set_same, get_or-set_other}
+use lib.ListN.{length, get_or, set}
 use Rattle.sequence.specs.Window.{lowest, only}
 use Rattle.refusal.proofs.Cases.{side}
 use Rattle.sequence.proofs.Bits.{lowest_some, lowest_all, lowest_zero}
@@ -36,67 +35,31 @@ only_beyond n (suc count) (w ∷ ws) (suc k) h = only_beyond (n - 64) count ws k
 
 -- ---- the loop
 
--- the first i words of w are what is left of v's, and the others are v's
-pub record Cleared (v : List ℕ) (n count : ℕ) (w : List ℕ) (bits i : ℕ) : Type 0 where
-  pub size : length w ≡ length v
-  pub from : n / 64 ≤ i
-  pub to : i ≤ max count (n / 64)
-  pub left : bits ≡ n - 64 * i
-  pub below : (k : ℕ) → k < i → get_or w k 0 ≡ lowest (get_or v k 0) (n - 64 * k)
-  pub above : (k : ℕ) → i ≤ k → get_or w k 0 ≡ get_or v k 0
+-- words that lie before bit n stay whole
+pub only_whole : (n count : ℕ) (ws : List ℕ) → 64 * count ≤ n → only n count ws ≡ ws
+unfolding only
+only_whole n zero ws h = refl
+only_whole n (suc count) [] h = refl
+only_whole n (suc count) (w ∷ ws) h = rw (lowest_all w n (omega arith)) (ap (λ (x : List ℕ). w ∷ x) (only_whole (n - 64) count ws (omega arith)))
 
--- the words before that of bit n stay whole
-pub none_yet : (v : List ℕ) (n count : ℕ) → Cleared v n count v (n % 64) (n / 64)
-none_yet v n count = record {
-  size = refl;
-  from = omega arith;
-  to = omega arith;
-  left = omega arith;
-  below = λ k h. sym (lowest_all (get_or v k 0) (n - 64 * k) (omega arith));
-  above = λ k h. refl;
-}
+-- one word more
+only_next : (n i m : ℕ) (ws : List ℕ) → i < length ws → m ≡ n - 64 * i
+    → set (only n i ws) i (lowest (get_or (only n i ws) i 0) m) ≡ only n (suc i) ws
+unfolding only
+only_next n i m [] h e = absurd (omega arith)
+only_next n zero m (w ∷ ws) h e = let q : m ≡ n = omega arith in rw q
+only_next n (suc i) m (w ∷ ws) h e = ap (λ (x : List ℕ). lowest w n ∷ x) (only_next (n - 64) i m ws (omega arith) (omega arith))
 
-module _ {v : List ℕ} {n count : ℕ} {w : List ℕ} {bits i : ℕ} (c : Cleared v n count w bits i) where
-  pub one_word_cleared : i < count → (mask : ℕ) → mask ≡ 2 ^ min 64 bits - 1
-      → Cleared v n count (set w i (bit_and (get_or w i 0) mask)) 0 (i + 1)
-  one_word_cleared b mask m = record {
-    size = length-set w i (bit_and (get_or w i 0) mask) ∙ c.size;
-    from = omega (arith, c.from);
-    to = omega arith;
-    left = omega (arith, c.from);
-    below = λ k h. ⊎_elim (λ a. get_or-set_other w i k (bit_and (get_or w i 0) mask) 0 (λ e. absurd (omega arith)) ∙ c.below k a) (λ a. last k (omega arith)) (side k i);
-    above = λ k h. get_or-set_other w i k (bit_and (get_or w i 0) mask) 0 (λ e. absurd (omega arith)) ∙ c.above k (omega arith);
-  }
-    where
-      few : bits < 64
-      few = omega (arith, c.from, c.left)
+-- the word of bit n keeps the bits below it, a later one none
+pub one_word_cleared : (n i m mask : ℕ) (v ws : List ℕ) → ws ≡ only n i v → n / 64 ≤ i → i < length v → m ≡ n - 64 * i → mask ≡ 2 ^ min 64 m - 1
+    → set ws i (bit_and (get_or ws i 0) mask) ≡ only n (i + 1) v
+one_word_cleared n i m mask v ws p g h e k = rw (p, k, few, and_mask (get_or (only n i v) i 0) m, add-one i) (rw (lowest_some (get_or (only n i v) i 0) m (omega arith)) at (only_next n i m v h e))
+  where
+    few : min 64 m ≡ m
+    few = omega arith
 
-      masked : bit_and (get_or w i 0) mask ≡ lowest (get_or v i 0) (n - 64 * i)
-      masked =
-          ap (λ (x : ℕ). bit_and (get_or w i 0) x) (m ∙ ap (λ (x : ℕ). 2 ^ x - 1) (min-eq_right {n = bits} {m = 64} (omega arith)))
-          ∙ and_mask (get_or w i 0) bits ∙ sym (lowest_some (get_or w i 0) bits few)
-          ∙ ap (λ (x : ℕ). lowest x bits) (c.above i (omega arith)) ∙ ap (λ (x : ℕ). lowest (get_or v i 0) x) c.left
-
-      last : (k : ℕ) → k ≡ i → get_or (set w i (bit_and (get_or w i 0) mask)) k 0 ≡ lowest (get_or v k 0) (n - 64 * k)
-      last k e = rw e (⊎_elim (λ l. get_or-set_same w i (bit_and (get_or w i 0) mask) 0 l ∙ masked) outside (side i (length w)))
-        where
-          -- there is no such word
-          outside : length w ≤ i → get_or (set w i (bit_and (get_or w i 0) mask)) i 0 ≡ lowest (get_or v i 0) (n - 64 * i)
-          outside g =
-              ap (λ (x : List ℕ). get_or x i 0) (set_out w i (bit_and (get_or w i 0) mask) g) ∙ get_or-eq_default w 0 {n = i} g ∙ sym (lowest_zero (n - 64 * i))
-              ∙ ap (λ (x : ℕ). lowest x (n - 64 * i)) (sym (get_or-eq_default v 0 {n = i} (omega (arith, c.size))))
-
-  pub all_cleared : count ≤ i → w ≡ only n count v
-  all_cleared h = ext_get_or 0 w (only n count v) (c.size ∙ sym (only_length n count v)) (λ k l. at k)
-    where
-      at : (k : ℕ) → get_or w k 0 ≡ get_or (only n count v) k 0
-      at k = ⊎_elim early late (side k count)
-        where
-          early : k < count → get_or w k 0 ≡ get_or (only n count v) k 0
-          early l = c.below k (omega arith) ∙ sym (only_word n count v k l (n - 64 * k) refl)
-
-          whole : k < i → count ≤ k → get_or w k 0 ≡ get_or v k 0
-          whole l g = c.below k l ∙ lowest_all (get_or v k 0) (n - 64 * k) (omega (arith, c.to))
-
-          late : count ≤ k → get_or w k 0 ≡ get_or (only n count v) k 0
-          late g = ⊎_elim (λ l. whole l g) (λ a. c.above k a) (side k i) ∙ sym (only_beyond n count v k g)
+pub all_cleared : (n count i : ℕ) (v ws : List ℕ) → ws ≡ only n i v → count ≤ i → i ≤ max count (n / 64) → ws ≡ only n count v
+all_cleared n count i v ws p h to =
+    ⊎_elim (λ l. p ∙ only_whole n i v (omega arith) ∙ sym (only_whole n count v (omega arith)))
+    (λ g. let q : i ≡ count = omega arith in p ∙ ap (λ (k : ℕ). only n k v) q)
+    (side count (n / 64))

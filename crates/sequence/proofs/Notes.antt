@@ -38,16 +38,17 @@ module _ (s : IdSequence) (words : List ℕ) (id : ℕ) where
         note_in = rw (le-ltb id s.start from, lt-leb 4096 (id - s.start) near, ne_eqb id 18446744073709551615 fits)
 
         -- the same from its parts
-        pub note_of_lem : (held at count past word : ℕ) (left : List ℕ) (m : Truncated)
-            → at ≡ (id - s.start) / 64
+        pub note_of_lem : (offset held at count past word : ℕ) (left : List ℕ) (m : Truncated)
+            → offset ≡ id - s.start
+            → at ≡ offset / 64
             → count ≡ at + 1
             → held ≡ s.after - s.start
             → left ≡ only held count words
-            → word ≡ marked (get_or left at 0) ((id - s.start) % 64)
+            → word ≡ marked (get_or left at 0) (offset % 64)
             → past ≡ raised s id
             → m ≡ truncate_of past s.start (set left at word)
             → note_of s words id ≡ after_move past m
-        note_of_lem held at count past word left m a c h l w p e = rw (e, w, l, c, h, p, a) note_in
+        note_of_lem offset held at count past word left m o a c h l w p e = rw (e, w, l, c, h, p, a, o) note_in
 
 -- a note is refused, with the words unchanged, or the id lies in the window and is noted
 pub by_cases : (s : IdSequence) (words : List ℕ) (id : ℕ) (P : Outcome → Type 0)

@@ -1,12 +1,11 @@
 -- Rules 10, "Id sequence": what making a sequence, noting an id and asking for completeness answer.
 -- 10.1 "start, and after, one past the highest id noted": since 2^64-1 is never noted, after fits 64 bits.
-use Rattle.std.specs.Prelude.{ℕ, zero, suc, ◌+◌, ◌-◌, ◌/◌, min, max, Bool, List, get_or, ltb, leb, eqb}
+use Rattle.std.specs.Prelude.{ℕ, zero, suc, ◌+◌, ◌-◌, ◌/◌, min, max, Bool, List, get_or, ltb, leb, eqb, Result, Ok, Err}
 use Rattle.refusal.specs.Pick.{pick}
 use Rattle.refusal.specs.Refusal.{number_of, value_of}
 use Rattle.sequence.specs.Window.{marked_at, all_noted, only, shifted}
 use Rattle.sequence.specs.declared.IdSequence.{IdSequence}
-use Rattle.sequence.specs.declared.Noted.{Noted}
-use Rattle.sequence.specs.declared.Noted.TheVariants.{At, Refused}
+use Rattle.refusal.specs.declared.Refusal.{Refusal}
 
 -- the rules' answers to a note: the sequence after it, or a refusal's number and what it names
 pub data Noting : Type 0 where
@@ -14,9 +13,9 @@ pub data Noting : Type 0 where
   refused : (number value : ℕ) → Noting
 
 -- the rules' answer for each case of the code's
-abbrev pub paper_noted : Noted → Noting
-paper_noted (At s) = noted s.start s.after
-paper_noted (Refused r) = refused (number_of r) (value_of r)
+abbrev pub paper_noted : Result IdSequence Refusal → Noting
+paper_noted (Ok s) = noted s.start s.after
+paper_noted (Err r) = refused (number_of r) (value_of r)
 
 -- 10.1 "A new one has after equal to start"
 abbrev pub new_of : ℕ → IdSequence

@@ -2,24 +2,17 @@
 #![tactic(auto)]
 
 ghost use Rattle.std.specs.Prelude.{◌≡◌, ◌-◌, ◌<◌};
-ghost use Rattle.sequence.specs.Sequence.{new_of, complete_of, paper_noted, note_of, raised, truncated, truncate_of};
+ghost use Rattle.sequence.specs.Sequence.{new_of, complete_of, paper_noted, note_of, truncated, truncate_of};
 
 mod words;
 
 use refusal::Refusal;
 
 // The ids from start up to but not including after remain: after is one past the highest noted, so that nothing here wraps.
-#[derive(Clone, Copy)]
+#[derive(Clone, Copy, Debug, PartialEq, Eq)]
 pub struct IdSequence {
     pub start: u64,
     pub after: u64,
-}
-
-// The sequence after a note, or a refusal that changes nothing.
-#[derive(Clone, Copy)]
-pub enum Noted {
-    At(IdSequence),
-    Refused(Refusal),
 }
 
 impl IdSequence {
@@ -33,30 +26,25 @@ impl IdSequence {
     }
 
     #[tactic(auto, using(crate::proofs::Notes::note_below, crate::proofs::Notes::note_far, crate::proofs::Notes::note_last))]
-    pub fn note(self, words: &mut [u64; 64], id: u64) -> Noted
+    pub fn note(self, words: &mut [u64; 64], id: u64) -> Result<IdSequence, Refusal>
         ensures result_value { paper_noted result ≡ (note_of self words.old id).answer }
         ensures words_after { words.new ≡ (note_of self words.old id).words }
     {
-        let start = self.start;
-        if id < start {
-            return Noted::Refused(Refusal::BelowStart);
-        }
-        let offset = id - start;
-        if 4096 <= offset {
-            return Noted::Refused(Refusal::OutsideWindow);
-        }
-        if id == 0xffff_ffff_ffff_ffff {
-            return Noted::Refused(Refusal::OutsideWindow);
+        let Some(offset) = id.checked_sub(self.start) else {
+            return Err(Refusal::BelowStart);
+        };
+        if 4096 <= offset || id == u64::MAX {
+            return Err(Refusal::OutsideWindow);
         }
         let at = (offset / 64) as usize;
         // No id above the highest is noted, whatever the lent words hold.
         words::forget(words, self.remaining(), at + 1);
         words[at] = words::mark(words[at], offset);
-        let after = self.raised(id);
-        Noted::At(IdSequence {
-            start: truncate(words, start, after),
-            after,
-        })
+        let noted = IdSequence {
+            after: self.after.max(id + 1),
+            ..self
+        };
+        Ok(noted.truncate(words))
     }
 
     // Whether none remain, that is, no id up to the highest noted is missing.
@@ -70,42 +58,30 @@ impl IdSequence {
     fn remaining(self) -> u64
         ensures { result ≡ self.after - self.start }
     {
-        if self.start < self.after {
-            self.after - self.start
-        } else {
-            0
-        }
+        self.after.saturating_sub(self.start)
     }
 
-    // One past the highest, once an id is noted.
-    fn raised(self, id: u64) -> u64
-        requires { id < 18446744073709551615 }
-        ensures { result ≡ raised self id }
+    // As long as any remain, start moves past the first 64, or however many there are, if each is noted.
+    #[tactic(auto, using(crate::proofs::Rounds::rounds_last))]
+    fn truncate(self, words: &mut [u64; 64]) -> IdSequence
+        ensures start_and_words { truncated result.start words.new ≡ truncate_of self.after self.start words.old }
+        ensures after_kept { result.after ≡ self.after }
     {
-        if self.after < id + 1 {
-            id + 1
-        } else {
-            self.after
+        let mut ids = self;
+        while ids.start < ids.after {
+            let left = ids.remaining();
+            if !words::all_noted(words[0], left) {
+                return ids;
+            }
+            if left <= 64 {
+                return IdSequence {
+                    start: ids.after,
+                    ..ids
+                };
+            }
+            words::shift(words);
+            ids.start += 64;
         }
+        ids
     }
-}
-
-// The new start: as long as any remain it moves past the first 64, or however many there are, if each is noted.
-#[tactic(auto, using(crate::proofs::Rounds::rounds_last))]
-fn truncate(words: &mut [u64; 64], from: u64, after: u64) -> u64
-    ensures { truncated result words.new ≡ truncate_of after from words.old }
-{
-    let mut start = from;
-    while start < after {
-        let left = after - start;
-        if !words::all_noted(words[0], left) {
-            return start;
-        }
-        if left <= 64 {
-            return after;
-        }
-        words::shift(words);
-        start += 64;
-    }
-    start
 }

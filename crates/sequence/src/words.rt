@@ -13,11 +13,7 @@ pub(crate) fn mark(word: u64, offset: u64) -> u64
 fn mask(n: u64) -> u64
     ensures { result ≡ 2 ^ min 64 n - 1 }
 {
-    if n < 64 {
-        (1 << n) - 1
-    } else {
-        0xffff_ffff_ffff_ffff
-    }
+    if n < 64 { (1 << n) - 1 } else { u64::MAX }
 }
 
 // Whether the first n bits of a word are set, all 64 if n is more.
@@ -33,25 +29,17 @@ pub(crate) fn forget(words: &mut [u64; 64], from: u64, count: usize)
     requires { count ≤ 64 }
     ensures { words.new ≡ only from count words.old }
 {
-    let mut i = (from / 64) as usize;
-    let mut bits = from % 64;
-    while i < count {
-        words[i] = words[i] & mask(bits);
-        bits = 0;
-        i += 1;
+    let first = (from / 64) as usize;
+    for i in first..count {
+        words[i] &= mask(from.saturating_sub(64 * i as u64));
     }
 }
 
 // Moves the words down by one; a zero comes in at the end.
-pub(crate) fn shift(words: &mut [u64])
+#[tactic(auto, using(crate::proofs::Shifting::turned))]
+pub(crate) fn shift(words: &mut [u64; 64])
     ensures { words.new ≡ shifted words.old }
 {
-    let mut i: usize = 0;
-    while i + 1 < words.len() {
-        words[i] = words[i + 1];
-        i += 1;
-    }
-    if i < words.len() {
-        words[i] = 0;
-    }
+    words[0] = 0;
+    words.rotate_left(1);
 }
