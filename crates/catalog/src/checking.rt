@@ -6,7 +6,7 @@ ghost use Rattle.catalog.specs.Check.{paper_checked, later_marks, check_start, c
 ghost use Rattle.catalog.specs.Private.{paper_passed};
 
 use crate::bounds;
-use page::{Entry, Mark, Page};
+use page::{Mark, Page};
 use refusal::Refusal;
 
 // A page that was read has no fault: where to go on, and the last id before that page.
@@ -22,7 +22,8 @@ fn later_marks(log: &[u8], id: u64, from: usize, after: usize) -> Result<Passed,
     ensures { paper_passed result ≡ later_marks log.now id (after - from) from }
 {
     for p in from..after {
-        match Mark::read(log, p)? {
+        let page = Page { log, number: p };
+        match page.mark()? {
             Mark::Start => return Err(Refusal::Overlap { page: p as u64 }),
             Mark::Later => {}
         }
@@ -35,27 +36,29 @@ fn later_marks(log: &[u8], id: u64, from: usize, after: usize) -> Result<Passed,
 
 // A page with mark 1 that is no later page of an entry.
 #[tactic(auto, unfolding(crate::specs::Check::check_start))]
-fn check_start(log: &[u8], p: usize, last: u64) -> Result<Passed, Refusal>
-    requires { p < page_count log.now }
-    ensures { paper_passed result ≡ check_start log.now p last (entry_at log.now p) }
+fn check_start(page: Page<'_>, last: u64) -> Result<Passed, Refusal>
+    ensures { paper_passed result ≡ check_start page.entry.log.now page.entry.number last (entry_at page.entry.log.now page.entry.number) }
 {
-    let whole = Entry::read(log, p).whole(p)?;
+    let p = page.number;
+    let whole = page.whole()?;
     if whole.id <= last {
         return Err(Refusal::NotAscending { page: p as u64 });
     }
-    later_marks(log, whole.id, p + 1, whole.after)
+    later_marks(page.log, whole.id, p + 1, whole.after)
 }
 
 // A page that is no later page of an entry.
 #[tactic(auto, unfolding(crate::specs::Check::check_page))]
-fn check_page(log: &[u8], p: usize, last: u64) -> Result<Passed, Refusal>
-    requires { p < page_count log.now }
-    ensures { paper_passed result ≡ check_page log.now p last }
+fn check_page(page: Page<'_>, last: u64) -> Result<Passed, Refusal>
+    ensures { paper_passed result ≡ check_page page.entry.log.now page.entry.number last }
 {
-    match Mark::read(log, p)? {
-        Mark::Start => check_start(log, p, last),
-        Mark::Later if p == 0 => Err(Refusal::NoEntries { page: 0 }),
-        Mark::Later => Ok(Passed { page: p + 1, last }),
+    match page.mark()? {
+        Mark::Start => check_start(page, last),
+        Mark::Later if page.number == 0 => Err(Refusal::NoEntries { page: 0 }),
+        Mark::Later => Ok(Passed {
+            page: page.number + 1,
+            last,
+        }),
     }
 }
 
@@ -67,7 +70,7 @@ fn check_pages(log: &[u8]) -> Result<(), Refusal>
     let mut p = 0;
     let mut last = 0;
     while p < count {
-        let passed = check_page(log, p, last)?;
+        let passed = check_page(Page { log, number: p }, last)?;
         p = passed.page;
         last = passed.last;
     }

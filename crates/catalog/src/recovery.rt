@@ -39,15 +39,22 @@ fn walk_back(log: &[u8], excess: u64) -> Result<Recovered, Refusal>
     let pages = Page::count(log);
     let mut left = pages;
     for p in (0..pages).rev() {
-        match Mark::read(log, p)? {
-            Mark::Start => match Entry::read(&log[..left * Page::SIZE], p) {
-                Entry::Short => return Err(Refusal::ShortEntry { page: p as u64 }),
-                Entry::Cut { id: _ } => left = p,
-                Entry::Whole(whole) => {
-                    let length = (left * Page::SIZE) as u64;
-                    return at_whole(length, whole.id, excess, (pages - left) as u64);
+        let page = Page { log, number: p };
+        match page.mark()? {
+            Mark::Start => {
+                let start = Page {
+                    log: &log[..left * Page::SIZE],
+                    number: p,
+                };
+                match start.entry() {
+                    Entry::Short => return Err(Refusal::ShortEntry { page: p as u64 }),
+                    Entry::Cut { id: _ } => left = p,
+                    Entry::Whole(whole) => {
+                        let length = (left * Page::SIZE) as u64;
+                        return at_whole(length, whole.id, excess, (pages - left) as u64);
+                    }
                 }
-            },
+            }
             Mark::Later => {}
         }
     }

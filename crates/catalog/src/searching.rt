@@ -4,13 +4,14 @@ ghost use Rattle.page.specs.Size.{page_count};
 ghost use Rattle.page.specs.Entry.{entry_at};
 ghost use Rattle.catalog.specs.Guess.{offset_of};
 ghost use Rattle.catalog.specs.Output.{with_output};
-ghost use Rattle.catalog.specs.Lookup.{compared, saying_at, search_of, find_of, lookup_of, paper_look};
-ghost use Rattle.catalog.specs.Private.{paper_says};
+ghost use Rattle.catalog.specs.Lookup.{compared, saying_at, round_from, guess_in, search_of, find_of, lookup_of, paper_look};
+ghost use Rattle.catalog.specs.Private.{paper_says, paper_window, paper_round};
 
 use crate::log::Log;
-use page::{Entry, Mark, Page};
+use page::{Mark, Page};
 use refusal::Refusal;
 use std::cmp::Ordering;
+use std::ops::ControlFlow;
 
 // Found with its data length, or absent where it would stand.
 #[derive(Clone, Copy, Debug, PartialEq, Eq)]
@@ -40,73 +41,90 @@ fn offset(x: u64, y: u64, w: usize) -> usize
 
 // At a start: 6, 7, then its id is compared with the one looked for.
 #[tactic(auto, unfolding(crate::specs::Lookup::compared))]
-fn compare(log: &[u8], s: usize, id: u64) -> Result<Says, Refusal>
-    requires { s < page_count log.now }
-    ensures { paper_says result ≡ compared id s (entry_at log.now s) }
+fn compare(page: Page<'_>, id: u64) -> Result<Says, Refusal>
+    ensures { paper_says result ≡ compared id page.entry.number (entry_at page.entry.log.now page.entry.number) }
 {
-    let whole = Entry::read(log, s).whole(s)?;
+    let whole = page.whole()?;
     Ok(match whole.id.cmp(&id) {
         Ordering::Less => Says::Below {
             id: whole.id,
             after: whole.after,
         },
         Ordering::Equal => Says::Here {
-            position: (s * Page::SIZE) as u64,
+            position: (page.number * Page::SIZE) as u64,
             length: whole.length as u64,
         },
         Ordering::Greater => Says::Above { id: whole.id },
     })
 }
 
-// What page s says to a walk back that looks for an id.
+// What a page says to a walk back that looks for an id.
 #[tactic(auto, unfolding(crate::specs::Lookup::saying_at))]
-fn says_at(log: &[u8], s: usize, id: u64) -> Result<Says, Refusal>
-    requires { s < page_count log.now }
-    ensures { paper_says result ≡ saying_at log.now id s }
+fn asked(page: Page<'_>, id: u64) -> Result<Says, Refusal>
+    ensures { paper_says result ≡ saying_at page.entry.log.now id page.entry.number }
 {
-    match Mark::read(log, s)? {
-        Mark::Start => compare(log, s, id),
+    match page.mark()? {
+        Mark::Start => compare(page, id),
         Mark::Later => Ok(Says::Back),
     }
 }
 
-// The rounds: guess a page of the window, walk back to a start, and keep the side of it that may hold the id.
+// The pages from lo to below hi, and an id below and one above all of theirs.
+#[derive(Clone, Copy)]
+struct Window {
+    lo: usize,
+    hi: usize,
+    a: u64,
+    b: u64,
+}
+
+// A round: guesses a page of the window, walks back to a start, and keeps the side of it that may hold the id.
+fn round(log: &[u8], id: u64, w: Window) -> Result<ControlFlow<Look, Window>, Refusal>
+    requires { (w.lo < w.hi) × (w.hi ≤ page_count log.now) × (w.a < id) × (id < w.b) × (length log.now ≤ 2 ^ 31) }
+    ensures { paper_round result ≡ round_from log.now id (paper_window w) (guess_in id (paper_window w)) }
+{
+    let guess = w.lo + offset(id - w.a, w.b - w.a, w.hi - w.lo);
+    let past = guess + 1;
+    for s in (w.lo..past).rev() {
+        match asked(Page { log, number: s }, id)? {
+            Says::Here { position, length } => {
+                return Ok(ControlFlow::Break(Look::Found { position, length }));
+            }
+            Says::Below { id: a, after } => {
+                return Ok(ControlFlow::Continue(Window {
+                    lo: after.max(past),
+                    a,
+                    ..w
+                }));
+            }
+            Says::Above { id: b } => {
+                return Ok(ControlFlow::Continue(Window { hi: s, b, ..w }));
+            }
+            Says::Back => {}
+        }
+    }
+    Ok(ControlFlow::Continue(Window { lo: past, ..w }))
+}
+
+// The rounds, at first over all pages.
 fn search(log: &[u8], next: u64, id: u64) -> Result<Look, Refusal>
     requires { (1 ≤ id) × (id < next) × (length log.now ≤ 2 ^ 31) }
     ensures { paper_look result ≡ search_of log.now next id }
 {
-    let mut lo = 0;
-    let mut hi = Page::count(log);
-    let mut a = 0;
-    let mut b = next;
-    'window: while lo < hi {
-        let g = lo + offset(id - a, b - a, hi - lo);
-        let mut s = g;
-        'back: loop {
-            match says_at(log, s, id)? {
-                Says::Here { position, length } => return Ok(Look::Found { position, length }),
-                Says::Below { id: stored, after } => {
-                    a = stored;
-                    lo = after.max(g + 1);
-                    break 'back;
-                }
-                Says::Above { id: stored } => {
-                    b = stored;
-                    hi = s;
-                    break 'back;
-                }
-                Says::Back => {
-                    if s == lo {
-                        lo = g + 1;
-                        break 'back;
-                    }
-                    s -= 1;
-                }
-            }
+    let mut w = Window {
+        lo: 0,
+        hi: Page::count(log),
+        a: 0,
+        b: next,
+    };
+    while w.lo < w.hi {
+        match round(log, id, w)? {
+            ControlFlow::Break(look) => return Ok(look),
+            ControlFlow::Continue(left) => w = left,
         }
     }
     Ok(Look::Absent {
-        position: (hi * Page::SIZE) as u64,
+        position: (w.hi * Page::SIZE) as u64,
     })
 }
 

@@ -9,16 +9,16 @@ use Rattle.catalog.proofs.checking.later_marks.Goals as goal
 pub loop-p-init : goal.loop-p-init
 loop-p-init c = later_from _ _ _ _ _ (omega arith)
 
-pub returns-in_err-read : goal.returns-in_err-read
-returns-in_err-read c =
+pub returns-in_err-mark : goal.returns-in_err-mark
+returns-in_err-mark c =
     let e = err_from_is_err_and c.from_residual.result c.from_residual.ensures.1 in
-    rw (e.1, e.2) (later_fault _ _ _ _ _ (omega arith) c.in_err-read.ensures ∙ c.loop-p.invariant)
+    rw (e.1, e.2) (later_fault _ _ _ _ _ (omega arith) c.in_err-mark.ensures ∙ c.loop-p.invariant)
 
 pub returns-in-Start : goal.returns-in-Start
-returns-in-Start c = sym (later_start _ _ _ _ (omega arith) (is_start _ _ (rw c.in-Start.is at c.in_ok-read.ensures))) ∙ c.loop-p.invariant
+returns-in-Start c = sym (later_start _ _ _ _ (omega arith) (is_start _ _ (rw c.in-Start.is at c.in_ok-mark.ensures))) ∙ c.loop-p.invariant
 
 pub loop-p-preserved : goal.loop-p-preserved
-loop-p-preserved c = sym (later_on _ _ _ _ _ (omega arith) (is_later _ _ (rw c.in-Later.is at c.in_ok-read.ensures))) ∙ c.loop-p.invariant
+loop-p-preserved c = sym (later_on _ _ _ _ _ (omega arith) (is_later _ _ (rw c.in-Later.is at c.in_ok-mark.ensures))) ∙ c.loop-p.invariant
 
 pub returns : goal.returns
 returns c = sym (later_end _ _ _ _ (omega arith)) ∙ c.loop-p.invariant
