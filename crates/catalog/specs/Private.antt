@@ -11,14 +11,14 @@ use Rattle.catalog.specs.declared.checking.Passed.{Passed}
 use Rattle.catalog.specs.declared.searching.Look.{Look}
 use Rattle.catalog.specs.declared.searching.Window.{Window}
 use Rattle.catalog.specs.declared.searching.Says.{Says}
-use Rattle.catalog.specs.declared.searching.Says.TheVariants.{Here, Below, Above, Back}
+use Rattle.catalog.specs.declared.searching.Says.TheVariants.{Found, Below, Above, Back}
 
 abbrev pub paper_passed : Result Passed Refusal → Round Checking Checkpoint
 paper_passed (Ok passed) = again (checkpoint passed.page passed.last)
 paper_passed (Err r) = stop (refused (number_of r) (value_of r))
 
 abbrev pub paper_says : Result Says Refusal → Saying
-paper_says (Ok (Here position len)) = ends (found position len)
+paper_says (Ok (Found position len)) = ends (found position len)
 paper_says (Ok (Below stored after)) = below stored after
 paper_says (Ok (Above stored)) = above stored
 paper_says (Ok Back) = back

@@ -88,6 +88,5 @@ pub fn check(store: &[u8], length: u64) -> Result<(), Refusal>
     if bounds::is_too_long(store, length) {
         return Err(Refusal::BadState);
     }
-    let n = length as usize;
-    check_pages(&store[..n])
+    check_pages(&store[..length as usize])
 }

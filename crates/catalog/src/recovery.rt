@@ -48,7 +48,7 @@ fn walk_back(log: &[u8], excess: u64) -> Result<Recovered, Refusal>
                 };
                 match start.entry() {
                     Entry::Short => return Err(Refusal::ShortEntry { page: p as u64 }),
-                    Entry::Cut { id: _ } => left = p,
+                    Entry::Cut { .. } => left = p,
                     Entry::Whole(whole) => {
                         let length = (left * Page::SIZE) as u64;
                         return at_whole(length, whole.id, excess, (pages - left) as u64);

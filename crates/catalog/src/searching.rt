@@ -23,7 +23,7 @@ pub enum Look {
 // What a page says to the walk back: the id is found here, the entry here lies below or above it, or none starts here.
 #[derive(Clone, Copy)]
 enum Says {
-    Here { position: u64, length: u64 },
+    Found { position: u64, length: u64 },
     Below { id: u64, after: usize },
     Above { id: u64 },
     Back,
@@ -50,7 +50,7 @@ fn compare(page: Page<'_>, id: u64) -> Result<Says, Refusal>
             id: whole.id,
             after: whole.after,
         },
-        Ordering::Equal => Says::Here {
+        Ordering::Equal => Says::Found {
             position: (page.number * Page::SIZE) as u64,
             length: whole.length as u64,
         },
@@ -87,7 +87,7 @@ fn round(log: &[u8], id: u64, w: Window) -> Result<ControlFlow<Look, Window>, Re
     let past = guess + 1;
     for s in (w.lo..past).rev() {
         match asked(Page { log, number: s }, id)? {
-            Says::Here { position, length } => {
+            Says::Found { position, length } => {
                 return Ok(ControlFlow::Break(Look::Found { position, length }));
             }
             Says::Below { id: a, after } => {

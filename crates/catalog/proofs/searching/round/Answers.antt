@@ -22,8 +22,8 @@ returns-in_err-position c =
     let e = err_from_is_err_and c.from_residual.result c.from_residual.ensures.1 in
     rw (e.1, e.2) (windows.page_ends c.loop-s.invariant (omega arith) _ c.in_err-position.ensures)
 
-pub returns-in-Here : goal.returns-in-Here
-returns-in-Here c = windows.page_ends c.loop-s.invariant (omega arith) _ (rw c.in-Here.is at c.in_ok-position.ensures)
+pub returns-in-Found : goal.returns-in-Found
+returns-in-Found c = windows.page_ends c.loop-s.invariant (omega arith) _ (rw c.in-Found.is at c.in_ok-position.ensures)
 
 pub returns-in-Below : goal.returns-in-Below
 returns-in-Below c = windows.page_below c.loop-s.invariant (omega arith) _ _ _ (rw c.in-Below.is at c.in_ok-position.ensures) (omega (arith, c.max.ensures))

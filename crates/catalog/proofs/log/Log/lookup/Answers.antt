@@ -1,10 +1,31 @@
--- `Log::lookup` calls what is asked for: what is found lies in the log. Assumes nothing.
-use mathlib.Core.Path.{sym}
+-- `Log::lookup` meets its contract: what is found lies in the log. Assumes nothing.
+use mathlib.Core.Path.{◌≡◌, sym}
 use native.Mathlib.Omega.{arith}
+use Prim.Native.Nat.{◌%◌}
+use Rattle.page.specs.Size.{page_size}
+use Rattle.catalog.specs.Lookup.{found, find_of}
 use Rattle.catalog.proofs.Laws.Bounds.{is_log}
-use Rattle.catalog.proofs.Laws.Lookup.Handing.{data_within}
+use Rattle.catalog.proofs.Laws.Lookup.Positions.{found_whole}
+use Rattle.catalog.proofs.Laws.Lookup.Handing.{data_within, found_small, found_copied}
 use Rattle.catalog.proofs.log.Log.lookup.Goals as goal
+use Rattle.catalog.proofs.log.Log.lookup.Goals.{In-Found}
+
+is_found : (c : In-Found) → find_of c.args.self.store.now c.args.self.state c.args.id ≡ found c.in-Found.position c.in-Found.length
+is_found c = sym (rw c.in-Found.is at c.in_ok-look.ensures)
+
+-- its position is that of a page
+at_page : (c : In-Found) → c.in-Found.position % page_size ≡ 0
+at_page c = omega (arith, (found_whole _ _ _ _ _ (is_found c)).at_page)
+
+pub returns-then-out-length : goal.returns-then-out-length
+returns-then-out-length c = sym (found_small _ _ _ _ _ _ (is_found (goal.at.returns-then-out-length c).In-Found) (omega arith))
 
 pub copy_data-requires : goal.copy_data-requires
 copy_data-requires c =
-    (omega arith, rw (is_log _ _ c.in_ok-log.ensures).is (data_within _ _ _ _ _ (sym (rw c.in-Found.is at c.in_ok-look.ensures)) _ (omega arith)))
+    let at = (goal.at.copy_data-requires c).In-Found in
+    (omega arith, rw (is_log _ _ c.in_ok-log.ensures).is (data_within _ _ _ _ _ (is_found at) _ (omega (arith, at_page at))))
+
+pub returns-else-out-length : goal.returns-else-out-length
+returns-else-out-length c =
+    let at = (goal.at.returns-else-out-length c).In-Found in
+    rw (c.copy_data.ensures, (is_log _ _ c.in_ok-log.ensures).is) (sym (found_copied _ _ _ _ _ _ (is_found at) _ (omega arith) (omega arith)))
