@@ -26,7 +26,7 @@ pub returns-in-Found : goal.returns-in-Found
 returns-in-Found c = windows.page_ends c.loop-s.invariant (omega arith) _ (rw c.in-Found.is at c.in_ok-position.ensures)
 
 pub returns-in-Below : goal.returns-in-Below
-returns-in-Below c = windows.page_below c.loop-s.invariant (omega arith) _ _ _ (rw c.in-Below.is at c.in_ok-position.ensures) (omega (arith, c.max.ensures))
+returns-in-Below c = windows.page_below c.loop-s.invariant (omega arith) _ _ _ (rw c.in-Below.is at c.in_ok-position.ensures) (omega arith)
 
 pub returns-in-Above : goal.returns-in-Above
 returns-in-Above c = windows.page_above c.loop-s.invariant (omega arith) _ _ (rw c.in-Above.is at c.in_ok-position.ensures) (omega arith)
