@@ -6,61 +6,15 @@ ghost use Rattle.page.specs.Private.{head_of};
 
 use crate::Page;
 
-// Puts src over the front of dst.
-fn put(dst: &mut [u8], src: &[u8])
-    requires { length src.now ≤ length dst.old }
-    ensures { dst.new ≡ overwritten dst.old src.now }
-{
-    let mut i = 0;
-    while i < src.len() {
-        dst[i] = src[i];
-        i += 1;
-    }
-}
-
-// Clears a part.
-fn clear(part: &mut [u8])
-    ensures { part.new ≡ replicate (length part.old) 0 }
-{
-    let mut cleared = 0;
-    while cleared < part.len() {
-        part[cleared] = 0;
-        cleared += 1;
-    }
-}
-
 // The bytes of an entry before its data: its mark, the length of its payload and its id, high byte first.
 fn entry_head(length: usize, id: u64) -> [u8; Page::DATA_START]
     ensures { result ≡ head_of length id }
 {
-    let id1 = id / 256;
-    let id2 = id1 / 256;
-    let id3 = id2 / 256;
-    let id4 = id3 / 256;
-    let id5 = id4 / 256;
-    let id6 = id5 / 256;
-    let id7 = id6 / 256;
-    [
-        1,
-        (length / 256 / 256 % 256) as u8,
-        (length / 256 % 256) as u8,
-        (length % 256) as u8,
-        (id7 % 256) as u8,
-        (id6 % 256) as u8,
-        (id5 % 256) as u8,
-        (id4 % 256) as u8,
-        (id3 % 256) as u8,
-        (id2 % 256) as u8,
-        (id1 % 256) as u8,
-        (id % 256) as u8,
-    ]
-}
-
-// The smaller of two numbers.
-fn least(a: usize, b: usize) -> usize
-    ensures { result ≡ min a b }
-{
-    if a < b { a } else { b }
+    let mut head = [0; Page::DATA_START];
+    head[0] = 1;
+    head[1..Page::PAYLOAD_START].copy_from_slice(&length.to_be_bytes()[5..]);
+    head[Page::PAYLOAD_START..].copy_from_slice(&id.to_be_bytes());
+    head
 }
 
 // Writes a page to the front of `part`: its head, as much of `bytes` as it then holds, and zeros.
@@ -69,11 +23,11 @@ fn write_page(part: &mut [u8], head: &[u8], bytes: &[u8])
     ensures { part.new ≡ overwritten part.old (filled (head.now ++ take (page_size - length head.now) bytes.now)) }
 {
     let from = head.len();
-    let held = least(bytes.len(), Page::SIZE - from);
+    let held = bytes.len().min(Page::SIZE - from);
     let end = from + held;
-    put(part, head);
-    put(&mut part[from..], &bytes[..held]);
-    clear(&mut part[end..Page::SIZE]);
+    part[..from].copy_from_slice(head);
+    part[from..end].copy_from_slice(&bytes[..held]);
+    part[end..Page::SIZE].fill(0);
 }
 
 // Writes the later pages of an entry, as many as `bytes` starts.
@@ -81,13 +35,10 @@ fn write_rest(part: &mut [u8], bytes: &[u8])
     requires { started later_payload (length bytes.now) * page_size ≤ length part.old }
     ensures { part.new ≡ overwritten part.old (later_pages (started later_payload (length bytes.now)) bytes.now) }
 {
-    let k = (bytes.len() + (Page::LATER_PAYLOAD - 1)) / Page::LATER_PAYLOAD;
-    let mut j = 0;
-    while j < k {
+    for j in 0..bytes.len().div_ceil(Page::LATER_PAYLOAD) {
         let at = j * Page::SIZE;
         let from = j * Page::LATER_PAYLOAD;
         write_page(&mut part[at..], &[0], &bytes[from..]);
-        j += 1;
     }
 }
 
