@@ -1,7 +1,7 @@
 -- A number in bytes, high byte first, over the number of bytes: its length, its bound, and that it reads back. Assumes nothing.
 use mathlib.Core.Path.{◌≡◌, refl, sym, ap, ◌∙◌}
 use mathlib.Core.List.{List, [], ◌∷◌, ◌++◌, append_assoc}
-use Prim.Native.Nat.{ℕ, zero, suc, ◌+◌, ◌*◌, ◌/◌, ◌%◌, ◌^◌, ◌<◌}
+use Prim.Native.Nat.{ℕ, zero, suc, ◌+◌, ◌/◌, ◌%◌, ◌^◌, ◌<◌}
 use native.Mathlib.Nat.{one-le-pow, pow-suc}
 use native.Mathlib.Numerals.{add-one}
 use native.Mathlib.Omega.{arith}
@@ -21,11 +21,6 @@ pub number_same : (l m : List ℕ) (a b k : ℕ) → ((i : ℕ) → i < k → ge
 unfolding number_at
 number_same l m a b zero h = refl
 number_same l m a b (suc k) h = rw (number_same l m a b k (λ i g. h i (omega arith)), h k (omega arith))
-
--- one byte more
-pub number_next : (l : List ℕ) (a k : ℕ) → number_at l a (k + 1) ≡ number_at l a k * 256 + get_or l (a + k) 0
-unfolding number_at
-number_next l a k = rw (add-one k)
 
 -- what was put into k bytes reads back, as much of it as they hold
 pub number_back : (pre : List ℕ) (k n : ℕ) (post : List ℕ) → number_at (pre ++ (bytes_of k n ++ post)) (length pre) k ≡ n % 256 ^ k

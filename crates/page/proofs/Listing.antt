@@ -5,13 +5,9 @@ use Prim.Native.Nat.{ℕ, zero, suc, ◌+◌, ◌<◌}
 use native.Mathlib.Numerals.{add-one}
 use native.Mathlib.Omega.{arith}
 use native.Mathlib.Decide.{dec_lt}
-use lib.ListN.{length, get_or, set, take, drop, length-append, get_or-append}
-use lib.Seq.{set_at, get_or_at, drop-cons, ext_get_or, append_snoc, length-take-le, take-suc}
+use lib.ListN.{length, get_or, set, drop, length-append, get_or-append}
+use lib.Seq.{set_at, get_or_at, drop-cons, ext_get_or, append_snoc}
 use Rattle.page.specs.Tab.{tab}
-
--- lists that begin with the same value and go on alike
-pub cons_same : {a b : ℕ} {l m : List ℕ} → a ≡ b → l ≡ m → ◌≡◌ {A = List ℕ} (a ∷ l) (b ∷ m)
-cons_same e f = cc
 
 pub length_tab : (f : ℕ → ℕ) (n : ℕ) → length (tab f n) ≡ n
 length_tab f zero = refl
@@ -21,11 +17,6 @@ length_tab f (suc n) = simp (length-append, length_tab f n, add-one)
 pub tab_store : (f : ℕ → ℕ) (n : ℕ) (l : List ℕ) → n < length l → set (tab f n ++ drop n l) n (f n) ≡ tab f (n + 1) ++ drop (n + 1) l
 tab_store f n l h =
     rw (add-one, drop-cons l n 0 h, set_at (tab f n) (get_or l n 0) (drop (suc n) l) (f n) n (length_tab f n)) (sym (append_snoc (tab f n) (f n) (drop (suc n) l)))
-
--- one store of a loop that copies s over the front of l
-pub copy_store : (s l : List ℕ) (i : ℕ) → i < length s → i < length l → set (take i s ++ drop i l) i (get_or s i 0) ≡ take (i + 1) s ++ drop (i + 1) l
-copy_store s l i h k =
-    rw (add-one, drop-cons l i 0 k, set_at (take i s) (get_or l i 0) (drop (suc i) l) (get_or s i 0) i (length-take-le i s (omega arith)), take-suc s i 0 h) (sym (append_snoc (take i s) (get_or s i 0) (drop (suc i) l)))
 
 pub get_d_tab : (f : ℕ → ℕ) (n i d : ℕ) → i < n → get_or (tab f n) i d ≡ f i
 get_d_tab f zero i d h = absurd (omega arith)

@@ -65,8 +65,3 @@ module _ (part₀ b : List ℕ) (k : ℕ) (part : List ℕ) (j : ℕ) (h : Later
         long = ap length e ∙ overwritten_length part₀ (later_pages (j + 1) b) (omega (arith, length_pages (j + 1) b, h.room));
         bytes = e;
       }
-
-  pub later_ends : k ≤ j → part ≡ overwritten part₀ (later_pages (started later_payload (length b)) b)
-  later_ends l =
-      let e : j ≡ started later_payload (length b) = omega (arith, h.most, h.count) in
-      rw e at h.bytes

@@ -12,19 +12,18 @@ fn copy_from(part: &[u8], n: usize, out: &mut [u8])
     ensures { out.new ≡ data_from part.now n ++ drop n out.old }
 {
     let mut at = 0;
-    let mut i = 0;
-    while i < n {
+    for byte in &mut out[..n] {
         // a page begins here: its mark is no data
         if at % Page::SIZE == Page::FIRST_DATA {
             at += 1;
         }
-        out[i] = part[at];
+        *byte = part[at];
         at += 1;
-        i += 1;
     }
 }
 
 // Hands the part from where the data begins on to the copier; `part` is the part of the log from the entry's start page.
+#[tactic(auto, using(crate::proofs::Counting::pages_some))]
 fn copy_entry(part: &[u8], n: usize, out: &mut [u8])
     requires { (n ≤ length out.old) × (pages_for_data n * page_size ≤ length part.now) }
     ensures { out.new ≡ data_of part.now n ++ drop n out.old }

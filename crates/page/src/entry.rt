@@ -1,31 +1,11 @@
 // What starts at a page: an entry's header, and where its pages end.
 ghost use Rattle.std.specs.Prelude.{◌≡◌, ◌+◌, ◌<◌, ◌≤◌, ◌^◌, length};
-ghost use Rattle.page.specs.Size.{length_size, id_size, payload_start, data_start, payload_end, page_count};
+ghost use Rattle.page.specs.Size.{length_size, id_size, payload_start, data_start, page_count};
 ghost use Rattle.page.specs.Bytes.{number_at};
 ghost use Rattle.page.specs.Entry.{entry_at, paper_entry, whole_of};
 
 use crate::Page;
 use refusal::Refusal;
-
-fn wide(x: u8) -> u64
-    ensures { (result ≡ x) × (x < 256) }
-{
-    x as u64
-}
-
-// The number in the k bytes from place a on, high byte first.
-fn number_at(part: &[u8], a: usize, k: usize) -> u64
-    requires { (a + k ≤ length part.now) × (k ≤ id_size) }
-    ensures { (result ≡ number_at part.now a k) × (result < 256 ^ k) }
-{
-    let mut n: u64 = 0;
-    let mut i: usize = 0;
-    while i < k {
-        n = n * 256 + wide(part[a + i]);
-        i += 1;
-    }
-    n
-}
 
 // What an entry's first page says of it: the payload's length and the id.
 #[derive(Clone, Copy)]
@@ -38,11 +18,16 @@ impl Header {
     // `part` is the part of the log from the entry's start page.
     fn read(part: &[u8]) -> Header
         requires { data_start ≤ length part.now }
-        ensures { (result.length ≡ number_at part.now 1 length_size) × (result.id ≡ number_at part.now payload_start id_size) × (result.length < payload_end) }
+        ensures { (result.length ≡ number_at part.now 1 length_size) × (result.id ≡ number_at part.now payload_start id_size) × (result.length < 2 ^ 32) }
     {
+        // a zero before its 3 bytes makes the length a u32
+        let mut length = [0; 4];
+        length[1..].copy_from_slice(&part[1..Page::PAYLOAD_START]);
+        let mut id = [0; Page::ID_SIZE];
+        id.copy_from_slice(&part[Page::PAYLOAD_START..Page::DATA_START]);
         Header {
-            length: number_at(part, 1, Page::LENGTH_SIZE) as usize,
-            id: number_at(part, Page::PAYLOAD_START, Page::ID_SIZE),
+            length: u32::from_be_bytes(length) as usize,
+            id: u64::from_be_bytes(id),
         }
     }
 }

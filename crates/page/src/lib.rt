@@ -61,7 +61,7 @@ impl Page<'_> {
         if n <= Self::FIRST_PAYLOAD {
             return 1;
         }
-        2 + (n - Self::FIRST_PAYLOAD - 1) / Self::LATER_PAYLOAD
+        1 + (n - Self::FIRST_PAYLOAD).div_ceil(Self::LATER_PAYLOAD)
     }
 
     // The pages of n data bytes.

@@ -12,7 +12,8 @@ fn entry_head(length: usize, id: u64) -> [u8; Page::DATA_START]
 {
     let mut head = [0; Page::DATA_START];
     head[0] = 1;
-    head[1..Page::PAYLOAD_START].copy_from_slice(&length.to_be_bytes()[5..]);
+    // the last 3 of its 8 bytes
+    head[1..Page::PAYLOAD_START].copy_from_slice(&length.to_be_bytes()[8 - Page::LENGTH_SIZE..]);
     head[Page::PAYLOAD_START..].copy_from_slice(&id.to_be_bytes());
     head
 }
@@ -43,6 +44,7 @@ fn write_rest(part: &mut [u8], bytes: &[u8])
 }
 
 // Writes an entry's pages to the front of `part`.
+#[tactic(auto, using(crate::proofs::Counting::pages_some, crate::proofs::Heading::length_head))]
 pub fn write_entry(part: &mut [u8], id: u64, bytes: &[u8])
     requires { (pages_for_data (length bytes.now) * page_size ≤ length part.old) × (length bytes.now < data_end) }
     ensures { part.new ≡ overwritten part.old (entry_pages id bytes.now) }

@@ -9,12 +9,6 @@ use Rattle.page.proofs.Placing.{data_from_lem}
 use Rattle.page.specs.Size.{id_size}
 use Rattle.page.proofs.copying.copy_entry.Goals as goal
 
-pub slice_bounds-copy_from-count : goal.slice_bounds-copy_from-count
-slice_bounds-copy_from-count c = omega (arith, pages_some (id_size + c.args.n))
-
-pub slice_bounds-copy_from-start : goal.slice_bounds-copy_from-start
-slice_bounds-copy_from-start c = omega (arith, pages_some (id_size + c.args.n))
-
 pub returns : goal.returns
 returns c =
     let a = c.args in

@@ -4,7 +4,7 @@ use mathlib.Core.List.{List, ◌++◌}
 use Prim.Native.Nat.{◌<◌, ℕ, ◌+◌, ◌-◌}
 use native.Mathlib.Omega.{arith}
 use borrow.Author.Rules.{rules}
-use lib.ListN.{length, set, get_or, drop, length-set}
+use lib.ListN.{length, set, get_or, take, drop, length-take}
 use Rattle.page.specs.Size.{data_start}
 use Rattle.page.specs.Data.{place_of}
 use Rattle.page.proofs.Listing.{tab_store}
@@ -12,9 +12,9 @@ use Rattle.page.proofs.Placing.{place_linear, place_within}
 use Rattle.page.specs.Private.{data_from}
 use Rattle.page.proofs.copying.copy_from.Goals as goal
 
-pub loop-i-init : goal.loop-i-init
+pub loop-byte-init : goal.loop-byte-init
 unfolding data_from
-loop-i-init c = search rules
+loop-byte-init c = search rules
 
 -- one byte copied, wherever the code reads it, if that is its place
 stored : (part out : List ℕ) (at i : ℕ) → i < length out → at ≡ place_of i - data_start
@@ -23,17 +23,13 @@ unfolding data_from
 stored part out at i h e = rw e (tab_store (λ i. get_or part (place_of i - data_start) 0) i out h)
 
 pub bounds-part-at : goal.bounds-part-at
-bounds-part-at c = grind (arith, place_linear c.loop-i.i, place_within c.loop-i.i c.args.n (omega arith))
+bounds-part-at c =
+    let i = c.loop-byte.byte-index in
+    grind (arith, length-take, place_linear i, place_within i c.args.n (omega (arith, length-take c.args.n c.args.out.now)))
 
-pub loop-i-preserved : goal.loop-i-preserved
-loop-i-preserved c = (
-  omega arith,
-  grind (arith, place_linear c.loop-i.i),
-  rw c.loop-i.invariant.2 (stored c.args.part.now c.args.out.now _ c.loop-i.i (omega arith) (grind (arith, place_linear c.loop-i.i))),
-  simp length-set (omega arith),
-)
-
-pub returns : goal.returns
-returns c =
-    let e : c.loop-i.i ≡ c.args.n = omega arith in
-    rw e at c.loop-i.invariant.2
+pub loop-byte-preserved : goal.loop-byte-preserved
+loop-byte-preserved c =
+    let i = c.loop-byte.byte-index in (
+      grind (arith, place_linear i),
+      rw c.loop-byte.invariant.1 (stored c.args.part.now (take c.args.n c.args.out.now) _ i (omega arith) (grind (arith, place_linear i))),
+    )

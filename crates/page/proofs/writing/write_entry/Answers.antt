@@ -1,25 +1,12 @@
 -- `write_entry` meets its contract: the first page, and the later ones if the data goes on. Assumes nothing.
-use mathlib.Core.Path.{ap, ◌∙◌}
 use Prim.Native.Nat.{◌+◌}
 use native.Mathlib.Omega.{arith}
 use lib.ListN.{length, length-drop}
 use Rattle.page.specs.Size.{id_size}
-use Rattle.page.proofs.Counting.{pages_some, pages_linear}
+use Rattle.page.proofs.Counting.{pages_linear}
 use Rattle.page.proofs.Parting.{rest_of}
-use Rattle.page.proofs.Heading.{length_head}
 use Rattle.page.proofs.Joining.{one_page, more_pages}
 use Rattle.page.proofs.writing.write_entry.Goals as goal
-
-pub write_page-requires : goal.write_page-requires
-write_page-requires c =
-    let a = c.args in
-    omega (arith, pages_some (id_size + length a.bytes.now), ap length c.entry_head-head.ensures ∙ length_head (id_size + length a.bytes.now) a.id)
-
-pub slice_bounds-write_rest-count : goal.slice_bounds-write_rest-count
-slice_bounds-write_rest-count c = omega (arith, pages_some (id_size + length c.args.bytes.now))
-
-pub slice_bounds-write_rest-start : goal.slice_bounds-write_rest-start
-slice_bounds-write_rest-start c = omega (arith, pages_some (id_size + length c.args.bytes.now))
 
 pub write_rest-requires : goal.write_rest-requires
 write_rest-requires c =

