@@ -158,7 +158,7 @@ impl Log<'_> {
                 return Err(Refusal::BufferSmall { needed: length });
             }
             let s = (position as usize) / Page::SIZE;
-            page::copy_data(log, s, length as usize, out);
+            Page { log, number: s }.copy_data(&mut out[..length as usize]);
         }
         Ok(look)
     }

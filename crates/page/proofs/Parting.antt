@@ -6,7 +6,8 @@ use native.Mathlib.Nat.{lt_of_not-le, min-eq_left, min-eq_right, le_of_lt}
 use native.Mathlib.Decide.{dec_le}
 use native.Mathlib.Omega.{arith}
 use lib.ListN.{length, take, drop, length-drop, length-append, drop_of_length-le}
-use lib.Seq.{take_all, drop-drop, take_at, drop_at}
+use lib.Seq.{take_all, length-take-le, drop-drop, take_at, drop_at}
+use Rattle.page.specs.Data.{data_at, copied}
 use Rattle.page.specs.Write.{overwritten}
 
 -- `&l[a..]` is `drop a l`
@@ -37,3 +38,7 @@ overwritten_after s p A B n e l =
 pub overwritten_more : (s p A B C ys : List ℕ) (n : ℕ) → p ≡ overwritten s A → length A ≡ n → C ≡ B → ys ≡ overwritten (take (length p - n) (drop n p)) C
     → take n p ++ (ys ++ drop (length p - n) (drop n p)) ≡ overwritten s (A ++ B)
 overwritten_more s p A B C ys n e l same y = put_back n p C ys y ∙ rw same (overwritten_after s p A B n e l)
+
+-- n data bytes put over the front of an output, in a part of it that has as many
+pub copied_part : (log : List ℕ) (s n : ℕ) (out : List ℕ) → n ≤ length out → data_at log s (length (take n out)) ++ drop n out ≡ copied log s n out
+copied_part log s n out h = rw (length-take-le n out h)

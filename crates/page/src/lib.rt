@@ -9,7 +9,6 @@ mod writing;
 ghost use Rattle.std.specs.Prelude.{◌≡◌, ◌+◌, ◌^◌, ◌<◌};
 ghost use Rattle.page.specs.Size.{id_size, pages_for, pages_for_data, page_count};
 
-pub use copying::copy_data;
 pub use entry::{Entry, Whole};
 pub use marks::Mark;
 pub use writing::write_entry;

@@ -1,9 +1,8 @@
 -- `copy_entry` meets its contract: the part from where the data begins is handed on. Assumes nothing.
-use mathlib.Core.Path.{◌∙◌, ap}
-use mathlib.Core.List.{List, ◌++◌}
-use Prim.Native.Nat.{ℕ, ◌+◌}
+use mathlib.Core.Path.{◌∙◌}
+use Prim.Native.Nat.{◌+◌}
 use native.Mathlib.Omega.{arith}
-use lib.ListN.{drop}
+use lib.ListN.{length}
 use Rattle.page.proofs.Counting.{pages_some}
 use Rattle.page.proofs.Placing.{data_from_lem}
 use Rattle.page.specs.Size.{id_size}
@@ -12,5 +11,4 @@ use Rattle.page.proofs.copying.copy_entry.Goals as goal
 pub returns : goal.returns
 returns c =
     let a = c.args in
-    c.copy_from.ensures
-    ∙ ap (λ (d : List ℕ). d ++ drop a.n a.out.now) (data_from_lem a.part.now a.n _ (omega (arith, pages_some (id_size + a.n))) (omega arith))
+    c.copy_from.ensures ∙ data_from_lem a.part.now (length a.out.now) _ (omega (arith, pages_some (id_size + length a.out.now))) (omega arith)

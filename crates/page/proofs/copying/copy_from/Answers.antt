@@ -4,7 +4,7 @@ use mathlib.Core.List.{List, ◌++◌}
 use Prim.Native.Nat.{◌<◌, ℕ, ◌+◌, ◌-◌}
 use native.Mathlib.Omega.{arith}
 use borrow.Author.Rules.{rules}
-use lib.ListN.{length, set, get_or, take, drop, length-take}
+use lib.ListN.{length, set, get_or, drop}
 use Rattle.page.specs.Size.{data_start}
 use Rattle.page.specs.Data.{place_of}
 use Rattle.page.proofs.Listing.{tab_store}
@@ -25,11 +25,11 @@ stored part out at i h e = rw e (tab_store (λ i. get_or part (place_of i - data
 pub bounds-part-at : goal.bounds-part-at
 bounds-part-at c =
     let i = c.loop-byte.byte-index in
-    grind (arith, length-take, place_linear i, place_within i c.args.n (omega (arith, length-take c.args.n c.args.out.now)))
+    grind (arith, place_linear i, place_within i (length c.args.out.now) (omega arith))
 
 pub loop-byte-preserved : goal.loop-byte-preserved
 loop-byte-preserved c =
     let i = c.loop-byte.byte-index in (
       grind (arith, place_linear i),
-      rw c.loop-byte.invariant.1 (stored c.args.part.now (take c.args.n c.args.out.now) _ i (omega arith) (grind (arith, place_linear i))),
+      rw c.loop-byte.invariant.1 (stored c.args.part.now c.args.out.now _ i (omega arith) (grind (arith, place_linear i))),
     )

@@ -1,8 +1,11 @@
 -- `Log::lookup` meets its contract: what is found lies in the log. Assumes nothing.
-use mathlib.Core.Path.{◌≡◌, sym}
+use mathlib.Core.Path.{◌≡◌, refl, sym}
 use native.Mathlib.Omega.{arith}
-use Prim.Native.Nat.{◌%◌}
-use Rattle.page.specs.Size.{page_size}
+use Prim.Native.Nat.{ℕ, ◌+◌, ◌/◌, ◌%◌, ◌≤◌}
+use lib.Seq.{length-take-le}
+use Rattle.page.specs.Size.{page_size, id_size, pages_for_data, page_count}
+use Rattle.page.proofs.Counting.{pages_some}
+use Rattle.page.proofs.Parting.{copied_part}
 use Rattle.catalog.specs.Lookup.{found, find_of}
 use Rattle.catalog.proofs.Laws.Bounds.{is_log}
 use Rattle.catalog.proofs.Laws.Lookup.Positions.{found_whole}
@@ -20,12 +23,22 @@ at_page c = omega (arith, (found_whole _ _ _ _ _ (is_found c)).at_page)
 pub returns-then-out-length : goal.returns-then-out-length
 returns-then-out-length c = sym (found_small _ _ _ _ _ _ (is_found (goal.at.returns-then-out-length c).In-Found) (omega arith))
 
+-- the data's pages lie in the log
+within : (c : In-Found) → (s : ℕ) → s ≤ c.in-Found.position / page_size → (n : ℕ) → n ≡ c.in-Found.length → s + pages_for_data n ≤ page_count c.in_ok-log.log.now
+within c s l n e = rw (e, (is_log _ _ c.in_ok-log.ensures).is) (data_within _ _ _ _ _ (is_found c) s l)
+
+pub invariant_of-copy_data : goal.invariant_of-copy_data
+invariant_of-copy_data c =
+    let at = (goal.at.invariant_of-copy_data c).In-Found in
+    record { inside = omega (arith, within at (c.in-Found.position / page_size) (omega arith) c.in-Found.length refl, pages_some (id_size + c.in-Found.length)) }
+
 pub copy_data-requires : goal.copy_data-requires
 copy_data-requires c =
     let at = (goal.at.copy_data-requires c).In-Found in
-    (omega arith, rw (is_log _ _ c.in_ok-log.ensures).is (data_within _ _ _ _ _ (is_found at) _ (omega (arith, at_page at))))
+    within at _ (omega (arith, at_page at)) _ (length-take-le _ _ (omega arith))
 
 pub returns-else-out-length : goal.returns-else-out-length
 returns-else-out-length c =
     let at = (goal.at.returns-else-out-length c).In-Found in
-    rw (c.copy_data.ensures, (is_log _ _ c.in_ok-log.ensures).is) (sym (found_copied _ _ _ _ _ _ (is_found at) _ (omega arith) (omega arith)))
+    rw (c.copy_data.ensures, copied_part c.in_ok-log.log.now (c.in-Found.position / page_size) c.in-Found.length c.args.out.now (omega arith), (is_log _ _ c.in_ok-log.ensures).is)
+    (sym (found_copied _ _ _ _ _ _ (is_found at) _ (omega arith) (omega arith)))
