@@ -1,4 +1,4 @@
-// The catalog log over page's promises: the state, refusal 1, the sound check, recovery and the lookup.
+// The catalog log over page's promises: the state and the log, refusal 1, the sound check, recovery and the lookup.
 #![tactic(auto)]
 
 mod bounds;

@@ -130,7 +130,7 @@ fn search(log: &[u8], next: u64, id: u64) -> Result<Look, Refusal>
 
 impl Log<'_> {
     // Where an id stands in the log, with nothing copied.
-    #[tactic(auto, unfolding(crate::specs::Lookup::find_of, crate::specs::Lookup::search_of, crate::specs::Bounds::log_of, crate::specs::Bounds::bad_state, crate::specs::Bounds::too_long))]
+    #[tactic(auto, unfolding(crate::specs::Lookup::find_of, crate::specs::Lookup::search_of, crate::specs::Bounds::log_of))]
     pub fn find(self, id: u64) -> Result<Look, Refusal>
         ensures { paper_look result ≡ find_of self.entry.store.now self.entry.state id }
     {
@@ -140,14 +140,14 @@ impl Log<'_> {
         }
         if self.state.next <= id {
             return Ok(Look::Absent {
-                position: self.state.length,
+                position: log.len() as u64,
             });
         }
         search(log, self.state.next, id)
     }
 
     // Finds an id, and copies its data to the front of `out`.
-    #[tactic(auto, unfolding(crate::specs::Lookup::lookup_of, crate::specs::Lookup::hand_found, crate::specs::Lookup::find_of, crate::specs::Output::hand_over, crate::specs::Bounds::log_of))]
+    #[tactic(auto, unfolding(crate::specs::Lookup::lookup_of, crate::specs::Lookup::hand_found, crate::specs::Lookup::find_of, crate::specs::Bounds::log_of))]
     pub fn lookup(self, id: u64, out: &mut [u8]) -> Result<Look, Refusal>
         ensures { with_output (paper_look result) out.new ≡ lookup_of self.entry.store.now self.entry.state id out.old }
     {

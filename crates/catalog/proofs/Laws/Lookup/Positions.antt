@@ -53,14 +53,6 @@ page_whole log id s (found position len) e = page_answers log id s (found positi
 page_whole log id s (absent position) e = tt
 page_whole log id s (refused number value) e = tt
 
-module _ (store : List ℕ) (st : State) (id position len : ℕ) (f : find_of store st id ≡ found position len) where
-  pub found_whole : FoundAt (take st.length store) id position len
-  found_whole = rw f at (found_by store st id (FoundWhole (take st.length store) id) tt (page_whole (take st.length store) id) (λ p l. tt))
-
-  -- refusal 1 was not given
-  pub found_good : bad_state store st.length ≡ false
-  found_good = go (bad_state store st.length) refl
-    where
-      go : (t : Bool) → bad_state store st.length ≡ t → t ≡ false
-      go true b = absurd (let e = find_bad store st id b in let z : ◌≡◌ {A = ℕ} 0 1 = cc in omega arith)
-      go false b = refl
+pub found_whole : (store : List ℕ) (st : State) (id position len : ℕ) → find_of store st id ≡ found position len → FoundAt (take st.length store) id position len
+found_whole store st id position len f =
+    rw f at (found_by store st id (FoundWhole (take st.length store) id) tt (page_whole (take st.length store) id) (λ p l. tt))

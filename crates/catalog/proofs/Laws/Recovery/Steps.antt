@@ -109,15 +109,8 @@ pub back_begins : (log : List ℕ) (excess left q : ℕ) → left ≡ page_count
 back_begins log excess left q a b w = record { most = omega arith; inside = omega arith; same = rw (all_pages_lem log left a w, b) (sym (from_last log excess)) }
 
 module _ (log : List ℕ) (excess left q : ℕ) (b : BackLoop log excess left q) where
-  -- a page s of those still to be looked at is in a part of w bytes that has all that is left
-  pub part_inside : (s : ℕ) → s < q → (w : ℕ) → w ≡ length (take w log) → left * page_size ≤ w → s < page_count (take w log)
-  part_inside s l w size fits = omega (arith, b.inside)
-
   -- page p, the last of those still to be looked at
   module _ (p : ℕ) (e : q ≡ suc p) where
-    pub still_inside : p < page_count log
-    still_inside = omega (arith, b.most, b.inside)
-
     mark_left : mark_at log p ≡ mark_at (first_pages log left) p
     mark_left = mark_same log (first_pages log left) p p (page_first log left b.most p (omega (arith, b.inside)))
 

@@ -2,11 +2,8 @@
 use mathlib.Core.Path.{refl, sym, ◌∙◌}
 use native.Mathlib.Omega.{arith}
 use Rattle.std.proofs.lemmas.Result.{err_from_is_err_and}
-use Rattle.catalog.proofs.Laws.Check.Steps.{goes_further, end_excess, end_sound, all_left, none_left, fault_left, fewer_left}
+use Rattle.catalog.proofs.Laws.Check.Steps.{goes_further, end_excess, end_sound, none_left, fault_left, fewer_left}
 use Rattle.catalog.proofs.checking.check_pages.Goals as goal
-
-pub loop-p-init : goal.loop-p-init
-loop-p-init c = all_left _
 
 pub returns-in_err-passed : goal.returns-in_err-passed
 returns-in_err-passed c =

@@ -30,12 +30,6 @@ loop-p-preserved-in-Cut c =
     _ (sym (length-take-le _ _ (omega (arith, c.loop-p.invariant.most)))) (omega arith) _ (omega arith)
     _ (sym c.in-Cut.ensures) _ (omega arith)
 
-pub overflow_mul-length : goal.overflow_mul-length
-overflow_mul-length c = omega (arith, c.loop-p.invariant.most)
-
-pub overflow_sub-pages : goal.overflow_sub-pages
-overflow_sub-pages c = omega (arith, c.loop-p.invariant.most)
-
 pub returns-in-Whole : goal.returns-in-Whole
 returns-in-Whole c =
     c.at_whole.ensures
