@@ -1,16 +1,20 @@
 -- `write_entries` meets its contract: what is left to do is what was to do. Assumes nothing.
-use mathlib.Core.Path.{refl}
+use mathlib.Core.Path.{refl, ap, ◌∙◌}
 use native.Mathlib.Omega.{arith}
 use lib.ListN.{length}
 use Rattle.std.proofs.Common.{rules}
-use Rattle.std.specs.Iterator.Adapters.{enumerate_source}
+use Rattle.std.specs.Iterator.Adapters.{enumerate_source, zip_first, zip_second}
+use Rattle.std.specs.Slice.Iter.{iter_rest}
 use Rattle.std.proofs.lemmas.Slice.Zip.{either_empty_from_Zip}
 use Rattle.pushing.specs.Push.{pushing, none}
 use Rattle.pushing.proofs.Laws.Entries.{entries_begin, data_above, data_inside, entries_refused, entries_again, entries_end}
 use Rattle.pushing.proofs.write_entries.Goals as goal
 
 pub loop-written-init : goal.loop-written-init
-loop-written-init c = (search rules, search rules, entries_begin _ _ _ _ _ _ _ _ c.requires (cc) (cc) (cc))
+loop-written-init c =
+    let pairs = ap enumerate_source c.into_iter-written-iterator.ensures.into_iter_gives ∙ c.enumerate-written-items.ensures.source in
+    let ids = ap (λ z. iter_rest (zip_first z)) pairs ∙ ap iter_rest c.zip.ensures.first ∙ c.iter.ensures.rest in
+    (search rules, search rules, entries_begin _ _ c.args.batch.ids.now _ _ _ _ _ c.requires ids (cc) (cc))
 
 pub slice_bounds-write_in_turn-count : goal.slice_bounds-write_in_turn-count
 slice_bounds-write_in_turn-count c =
