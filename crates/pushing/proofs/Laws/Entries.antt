@@ -132,11 +132,8 @@ module _ {store₀ : List ℕ} {st₀ : State} {ids ends bytes store : List ℕ}
     lie = data_lies ids ends bytes good j (front_inside ends ends'' end j ends_from)
 
     -- where the entry's data lies, as the code has it
-    pub data_above : from ≤ end
-    data_above = omega (arith, lie.above, h.from_is, end_is)
-
-    pub data_inside : end ≤ length bytes
-    data_inside = omega (arith, lie.inside, end_is)
+    pub data_inside : (from ≤ end) × (end ≤ length bytes)
+    data_inside = (omega (arith, lie.above, h.from_is, end_is), omega (arith, lie.inside, end_is))
 
     abbrev left : ℕ
     left = length ids - suc j

@@ -7,7 +7,5 @@ use Rattle.pushing.proofs.write_entries.Given as goal
 abbrev pub invariant-loop-written : goal.invariant-loop-written
 invariant-loop-written l =
     let pairs = enumerate_source l.written-iterator in
-    (goal.iterator-loop-written).can_next l.written-iterator
-    × (goal.iterator-loop-written).is_finite l.written-iterator
-    × EntriesLoop l.initial.store l.initial.state l.batch.ids.now l.batch.ends.now l.batch.bytes.now l.store l.state l.from
+    EntriesLoop l.initial.store l.initial.state l.batch.ids.now l.batch.ends.now l.batch.bytes.now l.store l.state l.from
     (enumerate_count l.written-iterator) (iter_rest (zip_first pairs)) (iter_rest (zip_second pairs))

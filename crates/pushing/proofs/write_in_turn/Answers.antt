@@ -2,9 +2,7 @@
 use Prim.Native.Nat.{ℕ, ◌*◌}
 use mathlib.Core.Path.{refl, sym, ap}
 use native.Mathlib.Omega.{arith}
-use lib.ListN.{length-drop}
 use Rattle.page.specs.Size.{page_size}
-use Rattle.page.proofs.Parting.{rest_of}
 use Rattle.pushing.proofs.Laws.Tests.{turn_order, turn_large, turn_full}
 use Rattle.pushing.proofs.Laws.Entries.{write_pages}
 use Rattle.pushing.proofs.write_in_turn.Goals as goal
@@ -17,9 +15,6 @@ returns-then-bytes-ge-DATA_END c j = sym (turn_large j _ _ _ (omega arith) (omeg
 
 pub returns-then-room-pages : goal.returns-then-room-pages
 returns-then-room-pages c j = sym (turn_full j _ _ _ (omega arith) (omega arith) (omega arith))
-
-pub write_entry-requires : goal.write_entry-requires
-write_entry-requires c = simp (rest_of, length-drop) (omega arith)
 
 pub returns : goal.returns
 returns c j =
