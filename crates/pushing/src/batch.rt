@@ -1,6 +1,5 @@
 // A batch that passed refusal 13, so that its ends divide its data.
 ghost use Rattle.std.specs.Prelude.{◌≡◌, ℕ, ◌<◌, true, false, length, get_or, MatchBool, MatchResult};
-ghost use Rattle.refusal.specs.Refusal.{number_of};
 ghost use Rattle.pushing.specs.Push.{before, bad_batch, some_large};
 
 use page::Page;
