@@ -16,7 +16,8 @@ reason_unique None (Some r') e = absurd (let z : ◌≡◌ {A = ℕ} 0 1 = cc in
 reason_unique (Some r) None e = absurd (let z : ◌≡◌ {A = ℕ} 0 1 = cc in omega arith)
 reason_unique (Some r) (Some r') e = ap Some (refusal_unique r r' (cc) (cc))
 
-made : (r s : Option Refusal) (m n : ℕ) (a b : State) → r ≡ s → m ≡ n → a ≡ b → ◌≡◌ {A = Pushed} (record { reason = r; written = m; state = a }) (record { reason = s; written = n; state = b })
+made : (r s : Option Refusal) (m n : ℕ) (a b : State) → r ≡ s → m ≡ n → a ≡ b
+    → ◌≡◌ {A = Pushed} (record { reason = r; written = m; state = a }) (record { reason = s; written = n; state = b })
 made r s m n a b e f g = rw (e, f, g)
 
 pub pushed_unique : (r s : Pushed) → paper_pushed r ≡ paper_pushed s → r ≡ s

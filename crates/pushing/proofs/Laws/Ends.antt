@@ -1,6 +1,6 @@
 -- What the tests 13 and 16 say of a batch's ends. Assumes nothing.
 use Prim.Native.Nat.{ℕ, zero, suc, ◌-◌, ◌≤◌, ◌<◌}
-use mathlib.Core.Path.{◌≡◌, refl, sym}
+use mathlib.Core.Path.{◌≡◌, refl, ◌∙◌}
 use mathlib.Core.Bool.{Bool, true, false, not, ◌||◌, or-true}
 use mathlib.Core.Logic.{⊎_elim}
 use mathlib.Core.List.{List}
@@ -10,7 +10,7 @@ use Rattle.std.proofs.Common.{MatchBool}
 use lib.Dec.{ltb, eqb}
 use lib.ListN.{length, get_or, length-take, length-drop}
 use Rattle.page.specs.Size.{data_end}
-use Rattle.pushing.specs.Push.{before, entry_data, some, bad_end, bad_batch, large_data}
+use Rattle.pushing.specs.Push.{before, entry_data, some, bad_end, bad_batch, large_data, some_large}
 use Rattle.refusal.proofs.Cases.{side}
 use Rattle.catalog.proofs.Laws.Bounds.{neither}
 
@@ -50,14 +50,15 @@ module _ (ids ends bytes : List ℕ) where
   unfolding bad_batch
   bad_counts d = rw (ne_eqb (length ids) (length ends) d)
 
-  -- what the ends say is all that is left to test
-  pub ends_decide : length ids ≡ length ends → (t : Bool) → some (bad_end ends bytes) (length ends) ≡ t → bad_batch ids ends bytes ≡ t
-  unfolding bad_batch
-  ends_decide same t e = rw (eq-eqb (length ids) (length ends) same, e)
+  -- whether end j is bad, as the code tests it
+  abbrev is_bad : ℕ → Bool
+  is_bad j = ltb (get_or ends j 0) (before ends j) || ltb (length bytes) (get_or ends j 0)
 
-pub bad_end_says : (ends bytes : List ℕ) (j : ℕ) (b : Bool) → b ≡ (ltb (get_or ends j 0) (before ends j) || ltb (length bytes) (get_or ends j 0)) → bad_end ends bytes j ≡ b
-unfolding bad_end
-bad_end_says ends bytes j b e = sym e
+  pub batch_says : {P Q : ℕ → Type 0} → length ids ≡ length ends
+      → ((j : ℕ) → j < length ends → P j → is_bad j ≡ true) → ((j : ℕ) → j < length ends → Q j → is_bad j ≡ false)
+      → (r : Bool) → MatchBool r ((j : ℕ) × (j < length ends) × P j) ((j : ℕ) → j < length ends → Q j) → bad_batch ids ends bytes ≡ r
+  unfolding bad_batch bad_end
+  batch_says same f g r e = rw (eq-eqb (length ids) (length ends) same) (some_says (bad_end ends bytes) (length ends) f g r e)
 
 -- an entry's data lies in the batch data
 pub record DataLies (ends bytes : List ℕ) (j : ℕ) : Type 0 where
@@ -83,6 +84,17 @@ module _ (ids ends bytes : List ℕ) (good : bad_batch ids ends bytes ≡ false)
 
 -- ---- 16
 
-pub large_data_says : (ids ends bytes : List ℕ) → bad_batch ids ends bytes ≡ false → (j : ℕ) → j < length ends → (b : Bool) → b ≡ ltb data_end (get_or ends j 0 - before ends j) → large_data ends bytes j ≡ b
-unfolding large_data
-large_data_says ids ends bytes good j l b e = rw ((data_lies ids ends bytes good j l).size) (sym e)
+module _ (ids ends bytes : List ℕ) (good : bad_batch ids ends bytes ≡ false) where
+  -- whether the data of entry j is too long, as the code tests it
+  abbrev is_large : ℕ → Bool
+  is_large j = ltb data_end (get_or ends j 0 - before ends j)
+
+  large_is : (j : ℕ) → j < length ends → large_data ends bytes j ≡ is_large j
+  unfolding large_data
+  large_is j l = rw ((data_lies ids ends bytes good j l).size)
+
+  pub large_says : {P Q : ℕ → Type 0} → ((j : ℕ) → j < length ends → P j → is_large j ≡ true) → ((j : ℕ) → j < length ends → Q j → is_large j ≡ false)
+      → (r : Bool) → MatchBool r ((j : ℕ) × (j < length ends) × P j) ((j : ℕ) → j < length ends → Q j) → some_large ends bytes ≡ r
+  unfolding some_large
+  large_says f g r e =
+      some_says (large_data ends bytes) (length ends) (λ j l p. large_is j l ∙ f j l p) (λ j l q. large_is j l ∙ g j l q) r e

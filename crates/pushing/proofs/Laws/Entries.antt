@@ -87,7 +87,8 @@ pub entries_begin : (store : List ℕ) (st : State) (ids ends bytes ids' ends' :
 entries_begin store st ids ends bytes ids' ends' j l i e z =
     rw z (record { most = omega arith; ids_left = i; ends_left = e; room = l; long = refl; from_is = refl; same = rw (sub-zero (length ids)) })
 
-module _ {store₀ : List ℕ} {st₀ : State} {ids ends bytes store : List ℕ} {st : State} {from j : ℕ} {ids' ends' : List ℕ} (good : bad_batch ids ends bytes ≡ false) (h : EntriesLoop store₀ st₀ ids ends bytes store st from j ids' ends') where
+module _ {store₀ : List ℕ} {st₀ : State} {ids ends bytes store : List ℕ} {st : State} {from j : ℕ} {ids' ends' : List ℕ}
+    (good : bad_batch ids ends bytes ≡ false) (h : EntriesLoop store₀ st₀ ids ends bytes store st from j ids' ends') where
   abbrev whole : Done
   whole = entries_from ids ends bytes (length ids) 0 (point st₀ store₀)
 
@@ -102,7 +103,8 @@ module _ {store₀ : List ℕ} {st₀ : State} {ids ends bytes store : List ℕ}
   none_left (inr e) = omega (arith, ap length (sym e ∙ h.ends_left), length-drop j ends, counts)
 
   -- no entry is left
-  pub entries_end : (ids' ≡ []) ⊎ (ends' ≡ []) → (a : Pushing) (n : ℕ) → a ≡ pushing none n st → n ≡ length ids → (a ≡ whole.answer) × (store ≡ whole.store)
+  pub entries_end : (ids' ≡ []) ⊎ (ends' ≡ []) → (a : Pushing) (n : ℕ) → a ≡ pushing none n st → n ≡ length ids
+      → (a ≡ whole.answer) × (store ≡ whole.store)
   unfolding entries_from
   entries_end l a n f q =
       let m : length ids ≤ j = none_left l in
@@ -142,7 +144,8 @@ module _ {store₀ : List ℕ} {st₀ : State} {ids ends bytes store : List ℕ}
     rest = entries_from ids ends bytes left (suc j)
 
     -- the entry's turn, as the code has it
-    module _ (store' : List ℕ) (r : Result State Refusal) (turned : (n : ℕ) → paper_turn n st store' r ≡ turn n id (take (end - from) (drop from bytes)) here) where
+    module _ (store' : List ℕ) (r : Result State Refusal)
+        (turned : (n : ℕ) → paper_turn n st store' r ≡ turn n id (take (end - from) (drop from bytes)) here) where
       turned_here : paper_turn j st store' r ≡ turn j (get_or ids j 0) (entry_data ends bytes j) here
       unfolding entry_data
       turned_here = rw (id_is, end_is, h.from_is) at (turned j)
@@ -163,7 +166,8 @@ module _ {store₀ : List ℕ} {st₀ : State} {ids ends bytes store : List ℕ}
           let o : done (refused (number_of x) (value_of x)) j (point st store') ≡ whole = rw e at in_turn in
           (f ∙ rw (q, s) (ap (λ (y : Done). y.answer) o), ap (λ (y : Done). y.store) o)
 
-      pub entries_again : (st' : State) → r ≡ Ok st' → length store' ≡ length store → (j' : ℕ) → j' ≡ j + 1 → EntriesLoop store₀ st₀ ids ends bytes store' st' end j' ids'' ends''
+      pub entries_again : (st' : State) → r ≡ Ok st' → length store' ≡ length store → (j' : ℕ) → j' ≡ j + 1
+          → EntriesLoop store₀ st₀ ids ends bytes store' st' end j' ids'' ends''
       entries_again st' e l j' z =
           let t : again (point st' store') ≡ turn j (get_or ids j 0) (entry_data ends bytes j) here = rw e at turned_here in
           let w : st'.length ≤ length store = turn_room j (get_or ids j 0) _ here (point st' store') _ h.room (entry_says j (get_or ids j 0) _ here) t in

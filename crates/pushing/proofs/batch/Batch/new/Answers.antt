@@ -1,8 +1,7 @@
 -- `Batch::new` meets its contract: the counts, and what the search through the spans found. Assumes nothing.
 use mathlib.Core.Path.{refl, ◌∙◌}
-use mathlib.Core.Bool.{true, false}
 use Rattle.std.proofs.Common.{rules}
-use Rattle.pushing.proofs.Laws.Ends.{some_says, bad_counts, ends_decide, bad_end_says}
+use Rattle.pushing.proofs.Laws.Ends.{bad_counts, batch_says}
 use Rattle.pushing.proofs.batch.Batch.new.Goals as goal
 use Rattle.pushing.proofs.batch.Batch.new.Goals.{then-ids-ends-via-then-ids-ends, then-ids-ends-via-else-ids-ends+then-is_some_span}
 
@@ -11,13 +10,12 @@ returns-then-ids-ends c = (
   refl,
   elim c.then-ids-ends.branch [
     | then-ids-ends-via-then-ids-ends w ↦ bad_counts _ _ _ w.if-ids-ends.true
-    | then-ids-ends-via-else-ids-ends+then-is_some_span w ↦ ends_decide _ _ _ w.if-ids-ends.false true
-        (some_says _ _ (λ j l p. bad_end_says _ _ j _ (search rules)) (λ j l p. bad_end_says _ _ j _ (search rules)) _ w.is_some_span.ensures ∙ w.if-is_some_span.true)
+    | then-ids-ends-via-else-ids-ends+then-is_some_span w ↦
+        batch_says _ _ _ w.if-ids-ends.false (λ j l p. search rules) (λ j l q. search rules) _ w.is_some_span.ensures ∙ w.if-is_some_span.true
   ],
 )
 
 pub invariant_of-result : goal.invariant_of-result
 invariant_of-result c = record {
-  good = ends_decide _ _ _ c.if-ids-ends.false false
-      (some_says _ _ (λ j l p. bad_end_says _ _ j _ (search rules)) (λ j l p. bad_end_says _ _ j _ (search rules)) _ c.is_some_span.ensures ∙ c.if-is_some_span.false);
+  good = batch_says _ _ _ c.if-ids-ends.false (λ j l p. search rules) (λ j l q. search rules) _ c.is_some_span.ensures ∙ c.if-is_some_span.false;
 }
