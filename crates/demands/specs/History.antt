@@ -16,7 +16,7 @@ use Rattle.catalog.specs.Lookup.{Looking, find_of, lookup_of}
 use Rattle.scanning.specs.Scan.{Beginning, scan_of}
 use Rattle.scanning.specs.Step.{Stepping, step_of}
 use Rattle.catalog.specs.declared.state.State.{State}
-use Rattle.scanning.specs.declared.Range.{Range}
+use Rattle.scanning.specs.declared.range.Range.{Range}
 use Rattle.demands.specs.Sound.{Start, Sound, Stored, Last}
 use Rattle.demands.specs.Push.{Push}
 use Rattle.demands.specs.Recovery.{Left}

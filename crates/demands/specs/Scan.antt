@@ -10,9 +10,9 @@ use Rattle.catalog.specs.Output.{with_output}
 use Rattle.scanning.specs.Step.{entry, end, step_of}
 use Rattle.scanning.specs.Scan.{Beginning, at}
 use Rattle.catalog.specs.declared.state.State.{State}
-use Rattle.scanning.specs.declared.End.{End}
-use Rattle.scanning.specs.declared.End.TheVariants.{Open, Included, Excluded}
-use Rattle.scanning.specs.declared.Range.{Range}
+use Rattle.std.specs.declared.ops.Bound.{Bound}
+use Rattle.std.specs.declared.ops.Bound.TheVariants.{Unbounded, Included, Excluded}
+use Rattle.scanning.specs.declared.range.Range.{Range}
 
 -- an entry as a scan hands it over
 pub record Item : Type 0 where
@@ -56,8 +56,8 @@ pub record Listing (log : List ℕ) (range : Range) (l : List Item) : Type 0 whe
   pub rising : Rising l
 
 -- 11.6 "the lower end is 1 or more and not below next"
-abbrev pub Beyond : End → ℕ → Type 0
-Beyond Open next = ⊥
+abbrev pub Beyond : Bound ℕ → ℕ → Type 0
+Beyond Unbounded next = ⊥
 Beyond (Included id) next = (1 ≤ id) × (next ≤ id)
 Beyond (Excluded id) next = (1 ≤ id) × (next ≤ id)
 

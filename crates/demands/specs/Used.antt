@@ -6,7 +6,7 @@ use Rattle.catalog.specs.Lookup.{found, refused}
 use Rattle.pushing.specs.Push.{Done, entry_data}
 use Rattle.scanning.specs.Step.{entry}
 use Rattle.catalog.specs.declared.state.State.{State}
-use Rattle.scanning.specs.declared.Range.{Range}
+use Rattle.scanning.specs.declared.range.Range.{Range}
 use Rattle.demands.specs.History.{Call, push, take_id, raise, find, lookup, scan, step_on, recover, lend, cut_log, Words}
 use Rattle.demands.specs.History.{Answer, pushed, handed_out, raised_to, located, looked_up, scan_began, stepped, restored, lent, reopened}
 use Rattle.demands.specs.History.{state_after_take, state_after_raise, state_after_recovery, Said}

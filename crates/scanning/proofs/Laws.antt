@@ -1,4 +1,3 @@
-pub mod Range
 pub mod Start
 pub mod Forward
 pub mod Handing

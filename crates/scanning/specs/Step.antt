@@ -1,7 +1,8 @@
 -- Rules 9, "Scan": a step.
-use Rattle.std.specs.Prelude.{ℕ, zero, suc, ◌+◌, ◌*◌, ◌/◌, ◌||◌, List, ltb, length, take}
+use Rattle.std.specs.Prelude.{ℕ, zero, suc, ◌+◌, ◌*◌, ◌/◌, ◌||◌, List, Result, Ok, Err, ltb, length, take}
 use Rattle.refusal.specs.Pick.{pick}
 use Rattle.refusal.specs.Refusal.{number_of, value_of}
+use Rattle.refusal.specs.declared.Refusal.{Refusal}
 use Rattle.page.specs.Size.{page_size, page_count}
 use Rattle.page.specs.Mark.{mark_at, by_mark}
 use Rattle.page.specs.Entry.{Starting, short, cut, whole, entry_at}
@@ -10,9 +11,9 @@ use Rattle.catalog.specs.Output.{WithOutput, with_output, hand_over}
 use Rattle.catalog.specs.Bounds.{bad_state, bad_cursor}
 use Rattle.scanning.specs.Range.{holds_of}
 use Rattle.catalog.specs.declared.state.State.{State}
-use Rattle.scanning.specs.declared.Range.{Range}
-use Rattle.scanning.specs.declared.Stepped.{Stepped}
-use Rattle.scanning.specs.declared.Stepped.TheVariants.{Entry, End, Refused}
+use Rattle.scanning.specs.declared.range.Range.{Range}
+use Rattle.scanning.specs.declared.stepping.Stepped.{Stepped}
+use Rattle.scanning.specs.declared.stepping.Stepped.TheVariants.{Entry, End}
 
 -- what a step answers: an entry with its id, data length and the cursor after it, the end with its cursor, or a refusal
 pub data Stepping : Type 0 where
@@ -21,10 +22,10 @@ pub data Stepping : Type 0 where
   refused : (number value : ℕ) → Stepping
 
 -- the rules' answer for each case of the code's
-abbrev pub paper_stepped : Stepped → Stepping
-paper_stepped (Entry id len cursor) = entry id len cursor
-paper_stepped (End cursor) = end cursor
-paper_stepped (Refused r) = refused (number_of r) (value_of r)
+abbrev pub paper_stepped : Result Stepped Refusal → Stepping
+paper_stepped (Ok (Entry id len cursor)) = entry id len cursor
+paper_stepped (Ok (End cursor)) = end cursor
+paper_stepped (Err r) = refused (number_of r) (value_of r)
 
 -- ---- forward to an entry of the range
 

@@ -13,7 +13,7 @@ use Rattle.catalog.specs.Lookup.{Looking, find_of, lookup_of}
 use Rattle.catalog.specs.declared.state.State.{State}
 use Rattle.pushing.specs.Push.{Done, entry_data}
 use Rattle.scanning.specs.Step.{Stepping, step_of}
-use Rattle.scanning.specs.declared.Range.{Range}
+use Rattle.scanning.specs.declared.range.Range.{Range}
 use Rattle.demands.specs.Push.{outcome, Holds}
 use Rattle.demands.specs.History.{World, log_of, Words, Call, push, find, lookup, step_on, cut_log}
 use Rattle.demands.specs.History.{Answer, pushed, looked_up, located, stepped, answer, step, heard, pushing}

@@ -14,9 +14,9 @@ use Rattle.catalog.specs.Bounds.{bad_state}
 use Rattle.catalog.specs.Lookup.{Looking, found, absent, refused, Saying, ends, below, above, back, compared, saying_at, find_of}
 use Rattle.scanning.specs.Scan.{Beginning, at, refused as unstarted, from_look, from_end, scan_of}
 use Rattle.catalog.specs.declared.state.State.{State}
-use Rattle.scanning.specs.declared.End.{End}
-use Rattle.scanning.specs.declared.End.TheVariants.{Open, Included, Excluded}
-use Rattle.scanning.specs.declared.Range.{Range}
+use Rattle.std.specs.declared.ops.Bound.{Bound}
+use Rattle.std.specs.declared.ops.Bound.TheVariants.{Unbounded, Included, Excluded}
+use Rattle.scanning.specs.declared.range.Range.{Range}
 use Rattle.catalog.proofs.Laws.Lookup.Saying.{compare_short, compare_cut, compare_same, compare_below, compare_above, says_start, says_back, says_bad}
 use Rattle.catalog.proofs.Laws.Lookup.Positions.{found_by}
 use Rattle.scanning.proofs.Laws.Start.{scan_bad, scan_from}
@@ -71,8 +71,8 @@ look_not_ten (found position len) h = tt
 look_not_ten (absent position) h = tt
 look_not_ten (refused number value) h = h
 
-end_not_ten : (store : List ℕ) (st : State) (lower : End) → StartNotTen (from_end store st lower)
-end_not_ten store st Open = tt
+end_not_ten : (store : List ℕ) (st : State) (lower : Bound ℕ) → StartNotTen (from_end store st lower)
+end_not_ten store st Unbounded = tt
 end_not_ten store st (Included id) = look_not_ten (find_of store st id) (find_not_ten store st id)
 end_not_ten store st (Excluded id) = look_not_ten (find_of store st id) (find_not_ten store st id)
 

@@ -16,7 +16,7 @@ use Rattle.page.proofs.Starting.{whole_at, after_start}
 use Rattle.scanning.specs.Range.{holds_of}
 use Rattle.scanning.specs.Step.{Reaching, reached, ended, faulty, forward, forward_from, advance_of, step_of}
 use Rattle.catalog.specs.declared.state.State.{State}
-use Rattle.scanning.specs.declared.Range.{Range}
+use Rattle.scanning.specs.declared.range.Range.{Range}
 use Rattle.demands.proofs.Sound.{not_bad_cursor}
 use Rattle.scanning.proofs.Laws.Forward.{step_in, step_out, step_page_start, step_page_later, forward_end, forward_stop, forward_again}
 use Rattle.scanning.proofs.Laws.Handing.{advance_end, advance_entry, step_open}

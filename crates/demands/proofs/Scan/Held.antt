@@ -13,7 +13,7 @@ use Rattle.catalog.specs.Bounds.{bad_state, bad_cursor}
 use Rattle.catalog.specs.Output.{WithOutput, with_output}
 use Rattle.catalog.specs.declared.state.State.{State}
 use Rattle.scanning.specs.Step.{Reaching, reached, ended, faulty, forward_from, Stepping, entry, end, refused, advance_of, step_of}
-use Rattle.scanning.specs.declared.Range.{Range}
+use Rattle.scanning.specs.declared.range.Range.{Range}
 use Rattle.scanning.proofs.Laws.Forward.{reached_entry}
 use Rattle.scanning.proofs.Laws.Handing.{advance_fault, advance_end, advance_small, advance_entry, step_bad_state, step_bad_cursor, step_open}
 use Rattle.demands.specs.Push.{Holds}

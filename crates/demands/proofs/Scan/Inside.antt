@@ -6,7 +6,7 @@ use mathlib.Core.List.{List}
 use Rattle.page.specs.Entry.{id_at}
 use Rattle.scanning.specs.Range.{holds_of}
 use Rattle.scanning.specs.Step.{reached, forward_from}
-use Rattle.scanning.specs.declared.Range.{Range}
+use Rattle.scanning.specs.declared.range.Range.{Range}
 use Rattle.scanning.proofs.Laws.Forward.{reached_entry}
 
 pub reached_inside : (log : List ℕ) (range : Range) (from page id len after : ℕ) → reached page id len after ≡ forward_from log range from → holds_of range (id_at log page) ≡ true

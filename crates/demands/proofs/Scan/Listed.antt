@@ -16,7 +16,7 @@ use Rattle.page.proofs.Starting.{after_start}
 use Rattle.demands.specs.Sound.{Start, Sound}
 use Rattle.scanning.specs.Range.{holds_of}
 use Rattle.demands.specs.Scan.{Item, item_at, Rising, OfRange, Listing}
-use Rattle.scanning.specs.declared.Range.{Range}
+use Rattle.scanning.specs.declared.range.Range.{Range}
 use Rattle.refusal.proofs.Cases.{side, order, same_or_not, which}
 
 -- the entries of the range that start on k pages from page p

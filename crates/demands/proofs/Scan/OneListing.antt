@@ -11,7 +11,7 @@ use Rattle.catalog.specs.Output.{WithOutput, with_output}
 use Rattle.scanning.specs.Step.{Stepping, entry, end, step_of}
 use Rattle.demands.specs.Scan.{Item, Hands, no_more, one_more, Rising, OfRange, Listing}
 use Rattle.catalog.specs.declared.state.State.{State}
-use Rattle.scanning.specs.declared.Range.{Range}
+use Rattle.scanning.specs.declared.range.Range.{Range}
 
 -- ---- one listing
 

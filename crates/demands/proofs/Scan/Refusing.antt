@@ -11,7 +11,7 @@ use Rattle.catalog.specs.Bounds.{bad_state, bad_cursor}
 use Rattle.catalog.specs.Output.{WithOutput}
 use Rattle.scanning.specs.Step.{Reaching, reached, ended, faulty, forward_from, Stepping, entry, refused, hand_reached, advance_of, step_of}
 use Rattle.catalog.specs.declared.state.State.{State}
-use Rattle.scanning.specs.declared.Range.{Range}
+use Rattle.scanning.specs.declared.range.Range.{Range}
 use Rattle.demands.proofs.Output.{hand_refused}
 
 abbrev RefusalLeaves : List ℕ → WithOutput Stepping → Type 0

@@ -16,9 +16,9 @@ use Rattle.scanning.specs.Scan.{Beginning, at, from_look, from_end, scan_of}
 use Rattle.demands.specs.Lookup.{standing, RightStanding}
 use Rattle.demands.specs.Scan.{Enough, Beyond, Scans}
 use Rattle.catalog.specs.declared.state.State.{State}
-use Rattle.scanning.specs.declared.End.{End}
-use Rattle.scanning.specs.declared.End.TheVariants.{Open, Included, Excluded}
-use Rattle.scanning.specs.declared.Range.{Range}
+use Rattle.std.specs.declared.ops.Bound.{Bound}
+use Rattle.std.specs.declared.ops.Bound.TheVariants.{Unbounded, Included, Excluded}
+use Rattle.scanning.specs.declared.range.Range.{Range}
 use Rattle.refusal.proofs.Cases.{side}
 use Rattle.demands.proofs.Sound.{sound_not_bad, sound_length}
 use Rattle.catalog.proofs.Laws.Lookup.Tests.{find_zero, find_late}
@@ -96,8 +96,8 @@ module _ (store : List ℕ) (st : State) (range : Range) (m : ℕ) (good : Sound
       late some l =
           rw (find_late store st id (sound_not_bad good) (λ e. omega arith) l) (from_end_lem (at st.length) refl (into (some, l)))
 
-  begins : (lower : End) → range.lower ≡ lower → Scans store st range m (from_end store st lower)
-  begins Open e = from_page 0 (omega arith) (at 0) refl (λ q b l. absurd (omega arith)) (λ x. rw e at x)
+  begins : (lower : Bound ℕ) → range.lower ≡ lower → Scans store st range m (from_end store st lower)
+  begins Unbounded e = from_page 0 (omega arith) (at 0) refl (λ q b l. absurd (omega arith)) (λ x. rw e at x)
   begins (Included id) e = at_id id (λ x l. rw (e, lt-leb id x l)) (λ x. rw e at x) (λ x. rw e x)
   begins (Excluded id) e = at_id id (λ x l. rw (e, le-ltb id x (omega arith))) (λ x. rw e at x) (λ x. rw e x)
 

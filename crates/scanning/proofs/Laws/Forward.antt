@@ -15,25 +15,12 @@ use Rattle.page.proofs.Starting.{IsWhole, is_whole, after_data, after_start}
 use Rattle.catalog.specs.Round.{Round, stop, again}
 use Rattle.scanning.specs.Range.{holds_of}
 use Rattle.scanning.specs.Step.{Reaching, reached, ended, faulty, step_start, step_page, forward, forward_from}
-use Rattle.scanning.specs.declared.Range.{Range}
+use Rattle.scanning.specs.declared.range.Range.{Range}
 use Rattle.refusal.proofs.Cases.{side, which}
 
 -- ---- what a page says
 
 module _ (log : List ℕ) (range : Range) (p : ℕ) where
-  module _ (value : ℕ) (v : value ≡ p) where
-    pub step_short : entry_at log p ≡ short → stop (faulty 6 value) ≡ step_start range p (entry_at log p)
-    unfolding step_start
-    step_short e = rw (e, v)
-
-    pub step_cut : (id : ℕ) → entry_at log p ≡ cut id → stop (faulty 7 value) ≡ step_start range p (entry_at log p)
-    unfolding step_start
-    step_cut id e = rw (e, v)
-
-    pub step_page_bad : IsBad (mark_at log p) → stop (faulty 5 value) ≡ step_page log range p
-    unfolding step_page
-    step_page_bad m = rw (by_bad (mark_at log p) _ _ _ m, v)
-
   module _ (id len after : ℕ) (e : entry_at log p ≡ whole id len after) where
     pub step_in : holds_of range id ≡ true → stop (reached p id len after) ≡ step_start range p (entry_at log p)
     unfolding step_start
@@ -46,6 +33,10 @@ module _ (log : List ℕ) (range : Range) (p : ℕ) where
   pub step_page_start : mark_at log p ≡ 1 → step_start range p (entry_at log p) ≡ step_page log range p
   unfolding step_page
   step_page_start m = rw (by_start (mark_at log p) _ _ _ m)
+
+  step_page_bad : IsBad (mark_at log p) → stop (faulty 5 p) ≡ step_page log range p
+  unfolding step_page
+  step_page_bad m = rw (by_bad (mark_at log p) _ _ _ m)
 
   pub step_page_later : (q : ℕ) → q ≡ p + 1 → mark_at log p ≡ 0 → again q ≡ step_page log range p
   unfolding step_page
@@ -92,7 +83,7 @@ module _ (log : List ℕ) (range : Range) (p : ℕ) where
       (λ (m : mark_at log p ≡ 1). rw (← step_page_start log range p m) (start_says m (entry_at log p) refl))
       (⊎_elim
       (λ (m : mark_at log p ≡ 0). rw (← step_page_later log range p (p + 1) refl m) (omega arith))
-      (λ (m : IsBad (mark_at log p)). rw (← step_page_bad log range p p refl m) tt))
+      (λ (m : IsBad (mark_at log p)). rw (← step_page_bad log range p m) tt))
       (mark_cases (mark_at log p))
 
   pub again_later : (q : ℕ) → again q ≡ step_page log range p → p < q
@@ -147,8 +138,8 @@ unfolding forward_from
 forward_begins log range from p e = rw e (record { fuel = page_count log; enough = omega arith; same = refl })
 
 module _ {log : List ℕ} {range : Range} {from p : ℕ} (g : ForwardLoop log range from p) where
-  pub forward_over : page_count log ≤ p → (cursor : ℕ) → cursor ≡ length log → ended cursor ≡ forward_from log range from
-  forward_over h cursor c = rw c (forward_end log range g.fuel p h ∙ g.same)
+  pub forward_over : page_count log ≤ p → ended (length log) ≡ forward_from log range from
+  forward_over h = forward_end log range g.fuel p h ∙ g.same
 
   module _ (h : p < page_count log) where
     pub forward_stopped : (r : Reaching) → stop r ≡ step_page log range p → r ≡ forward_from log range from

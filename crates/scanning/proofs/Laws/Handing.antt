@@ -10,7 +10,7 @@ use Rattle.catalog.specs.Output.{with_output, hand_over}
 use Rattle.catalog.specs.Bounds.{bad_state, bad_cursor}
 use Rattle.scanning.specs.Step.{reached, ended, faulty, forward_from, entry, end, refused, hand_reached, advance_of, step_of}
 use Rattle.catalog.specs.declared.state.State.{State}
-use Rattle.scanning.specs.declared.Range.{Range}
+use Rattle.scanning.specs.declared.range.Range.{Range}
 use Rattle.catalog.proofs.Laws.Output.{hand_small, hand_copied}
 
 module _ (log : List ℕ) (range : Range) (from : ℕ) (out : List ℕ) where

@@ -1,0 +1,7 @@
+-- `place` meets its contract where the id is absent. Assumes nothing.
+use native.Mathlib.Omega.{arith}
+use Rattle.scanning.proofs.Laws.Start.{place_absent}
+use Rattle.scanning.proofs.starting.place.Goals as goal
+
+pub returns-in-Absent : goal.returns-in-Absent
+returns-in-Absent c = place_absent _ _ _ _ _ (omega arith) c.in-Absent.ensures

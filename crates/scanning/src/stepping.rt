@@ -1,0 +1,112 @@
+// A step of a scan: forward to an entry of the range, which is handed over.
+ghost use Rattle.std.specs.Prelude.{◌≡◌, ◌<◌};
+ghost use Rattle.page.specs.Size.{page_count};
+ghost use Rattle.page.specs.Entry.{entry_at};
+ghost use Rattle.catalog.specs.Output.{with_output};
+ghost use Rattle.scanning.specs.Step.{step_start, step_page, forward_from, advance_of, step_of, paper_stepped};
+ghost use Rattle.scanning.specs.Private.{paper_met, paper_seen};
+
+use crate::range::Range;
+use catalog::Log;
+use page::{Entry, Mark, Page, Whole};
+use refusal::Refusal;
+use std::ops::ControlFlow;
+
+// An entry of the range and the page at which it starts, with nothing copied yet.
+#[derive(Clone, Copy)]
+struct Met {
+    page: usize,
+    entry: Whole,
+}
+
+// A log, and the range whose entries a step looks for in it.
+#[derive(Clone, Copy)]
+struct Walk<'a> {
+    log: &'a [u8],
+    range: Range,
+}
+
+impl Walk<'_> {
+    // A start: 6, 7, then its entry if its id is in the range, or on to the page after it.
+    #[tactic(auto, unfolding(crate::specs::Step::step_start))]
+    fn see_start(self, p: usize) -> Result<ControlFlow<Met, usize>, Refusal>
+        requires { p < page_count self.log.now }
+        ensures { paper_seen result ≡ step_start self.entry.range p (entry_at self.entry.log.now p) }
+    {
+        let entry = Entry::read(self.log, p).whole(p)?;
+        if self.range.holds(entry.id) {
+            return Ok(ControlFlow::Break(Met { page: p, entry }));
+        }
+        Ok(ControlFlow::Continue(entry.after))
+    }
+
+    // One page: 5, a start, or on to the next.
+    #[tactic(auto, unfolding(crate::specs::Step::step_page))]
+    fn see_page(self, p: usize) -> Result<ControlFlow<Met, usize>, Refusal>
+        requires { p < page_count self.log.now }
+        ensures { paper_seen result ≡ step_page self.entry.log.now self.entry.range p }
+    {
+        match Mark::read(self.log, p)? {
+            Mark::Start => self.see_start(p),
+            Mark::Later => Ok(ControlFlow::Continue(p + 1)),
+        }
+    }
+
+    // From a page on to the first entry of the range; none where the log ends first.
+    fn forward(self, from: usize) -> Result<Option<Met>, Refusal>
+        ensures { paper_met self.entry.log.now result ≡ forward_from self.entry.log.now self.entry.range from }
+    {
+        let pages = Page::count(self.log);
+        let mut p = from;
+        while p < pages {
+            match self.see_page(p)? {
+                ControlFlow::Break(met) => return Ok(Some(met)),
+                ControlFlow::Continue(next) => p = next,
+            }
+        }
+        Ok(None)
+    }
+
+    // A step within the log: only the entry that it comes to is copied.
+    #[tactic(auto, unfolding(crate::specs::Step::advance_of, crate::specs::Step::hand_reached, catalog::specs::Output::hand_over))]
+    fn advance(self, from: usize, out: &mut [u8]) -> Result<Stepped, Refusal>
+        ensures { with_output (paper_stepped result) out.new ≡ advance_of self.entry.log.now self.entry.range from out.old }
+    {
+        let Some(Met { page, entry }) = self.forward(from)? else {
+            return Ok(Stepped::End {
+                cursor: self.log.len() as u64,
+            });
+        };
+        let length = entry.length;
+        if out.len() < length {
+            return Err(Refusal::BufferSmall {
+                needed: length as u64,
+            });
+        }
+        page::copy_data(self.log, page, length, out);
+        Ok(Stepped::Entry {
+            id: entry.id,
+            length: length as u64,
+            cursor: (entry.after * Page::SIZE) as u64,
+        })
+    }
+}
+
+// An entry of the range handed over, or the end.
+#[derive(Clone, Copy, Debug, PartialEq, Eq)]
+pub enum Stepped {
+    Entry { id: u64, length: u64, cursor: u64 },
+    End { cursor: u64 },
+}
+
+// One step from a cursor. A refusal leaves the output as it was, and the caller keeps its cursor.
+#[tactic(auto, unfolding(crate::specs::Step::step_of, catalog::specs::Bounds::log_of))]
+pub fn step(log: Log<'_>, range: Range, cursor: u64, out: &mut [u8]) -> Result<Stepped, Refusal>
+    ensures { with_output (paper_stepped result) out.new ≡ step_of log.entry.store.now log.entry.state range cursor out.old }
+{
+    let bytes = log.bytes()?;
+    if catalog::is_bad_cursor(log.state.length, cursor) {
+        return Err(Refusal::BadState);
+    }
+    Walk { log: bytes, range }.advance(cursor as usize / Page::SIZE, out)
+}
