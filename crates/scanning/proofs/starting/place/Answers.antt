@@ -4,4 +4,4 @@ use Rattle.scanning.proofs.Laws.Start.{place_absent}
 use Rattle.scanning.proofs.starting.place.Goals as goal
 
 pub returns-in-Absent : goal.returns-in-Absent
-returns-in-Absent c = place_absent _ _ _ _ _ (omega arith) c.in-Absent.ensures
+returns-in-Absent c = place_absent _ _ _ _ _ (omega arith) (rw c.in-Absent.is at c.in_ok-position.ensures)
