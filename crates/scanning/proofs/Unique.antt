@@ -2,7 +2,6 @@
 use Prim.Native.Nat.{ℕ}
 use mathlib.Core.Path.{◌≡◌, sym, ap, ◌∙◌}
 use mathlib.Core.List.{List}
-use native.Mathlib.Omega.{arith}
 use Rattle.std.specs.Prelude.{Result, Ok, Err}
 use Rattle.refusal.specs.declared.Refusal.{Refusal}
 use Rattle.refusal.proofs.Unique.{refusal_unique, by_paper}
@@ -16,19 +15,19 @@ use Rattle.scanning.specs.declared.stepping.Stepped.TheVariants.{Entry, End}
 
 pub started_unique : (r s : Result ℕ Refusal) → paper_started r ≡ paper_started s → r ≡ s
 started_unique (Ok cursor) (Ok cursor') e = cc
-started_unique (Ok cursor) (Err r') e = absurd (let z : ◌≡◌ {A = ℕ} 0 1 = cc in omega arith)
-started_unique (Err r) (Ok cursor') e = absurd (let z : ◌≡◌ {A = ℕ} 0 1 = cc in omega arith)
+started_unique (Ok cursor) (Err r') e = cc
+started_unique (Err r) (Ok cursor') e = cc
 started_unique (Err r) (Err r') e = ap Err (refusal_unique r r' (cc) (cc))
 
 pub stepped_unique : (r s : Result Stepped Refusal) → paper_stepped r ≡ paper_stepped s → r ≡ s
 stepped_unique (Ok (Entry id len cursor)) (Ok (Entry id' len' cursor')) e = cc
-stepped_unique (Ok (Entry id len cursor)) (Ok (End cursor')) e = absurd (let z : ◌≡◌ {A = ℕ} 0 1 = cc in omega arith)
-stepped_unique (Ok (Entry id len cursor)) (Err r') e = absurd (let z : ◌≡◌ {A = ℕ} 0 1 = cc in omega arith)
-stepped_unique (Ok (End cursor)) (Ok (Entry id' len' cursor')) e = absurd (let z : ◌≡◌ {A = ℕ} 0 1 = cc in omega arith)
+stepped_unique (Ok (Entry id len cursor)) (Ok (End cursor')) e = cc
+stepped_unique (Ok (Entry id len cursor)) (Err r') e = cc
+stepped_unique (Ok (End cursor)) (Ok (Entry id' len' cursor')) e = cc
 stepped_unique (Ok (End cursor)) (Ok (End cursor')) e = cc
-stepped_unique (Ok (End cursor)) (Err r') e = absurd (let z : ◌≡◌ {A = ℕ} 0 1 = cc in omega arith)
-stepped_unique (Err r) (Ok (Entry id' len' cursor')) e = absurd (let z : ◌≡◌ {A = ℕ} 0 1 = cc in omega arith)
-stepped_unique (Err r) (Ok (End cursor')) e = absurd (let z : ◌≡◌ {A = ℕ} 0 1 = cc in omega arith)
+stepped_unique (Ok (End cursor)) (Err r') e = cc
+stepped_unique (Err r) (Ok (Entry id' len' cursor')) e = cc
+stepped_unique (Err r) (Ok (End cursor')) e = cc
 stepped_unique (Err r) (Err r') e = ap Err (refusal_unique r r' (cc) (cc))
 
 module _ (store : List ℕ) (st : State) where

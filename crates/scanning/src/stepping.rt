@@ -52,7 +52,8 @@ impl Walk<'_> {
         }
     }
 
-    // From a page on to the first entry of the range; none where the log ends first.
+    // From a page on to the first entry of the range; none where the log ends first. A `while`: an entry is passed with all its pages.
+    #[tactic(auto, using(crate::proofs::Laws::Forward::forward_turn))]
     fn forward(self, from: usize) -> Result<Option<Met>, Refusal>
         ensures { paper_met self.entry.log.now result ≡ forward_from self.entry.log.now self.entry.range from }
     {
@@ -68,7 +69,7 @@ impl Walk<'_> {
     }
 
     // A step within the log: only the entry that it comes to is copied.
-    #[tactic(auto, unfolding(crate::specs::Step::advance_of, crate::specs::Step::hand_reached, catalog::specs::Output::hand_over))]
+    #[tactic(auto, using(crate::proofs::Laws::Handing::at_entry), unfolding(crate::specs::Step::advance_of, crate::specs::Step::hand_reached))]
     fn advance(self, from: usize, out: &mut [u8]) -> Result<Stepped, Refusal>
         ensures { with_output (paper_stepped result) out.new ≡ advance_of self.entry.log.now self.entry.range from out.old }
     {

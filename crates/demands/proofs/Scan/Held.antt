@@ -35,10 +35,10 @@ module _ (store : List ℕ) (st : State) (range : Range) (cursor : ℕ) (out : L
   is_entry r x f = ap (λ (y : WithOutput Stepping). y.answer) f
 
   not_refused : (number value : ℕ) → with_output (refused number value) out ≡ with_output (entry id len next) left → ⊥
-  not_refused number value f = let g = is_entry _ out f in let z : ◌≡◌ {A = ℕ} 0 1 = cc in omega arith
+  not_refused number value f = let g = is_entry _ out f in cc
 
   not_end : (at : ℕ) → with_output (end at) out ≡ with_output (entry id len next) left → ⊥
-  not_end at f = let g = is_entry _ out f in let z : ◌≡◌ {A = ℕ} 0 1 = cc in omega arith
+  not_end at f = let g = is_entry _ out f in cc
 
   advanced : advance_of log range from out ≡ with_output (entry id len next) left → SteppedTo
   advanced e = go (forward_from log range from) refl

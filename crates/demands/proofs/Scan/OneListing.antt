@@ -88,8 +88,7 @@ module _ (store : List ℕ) (st : State) (range : Range) (m : ℕ) where
   clash : (id len after n : ℕ) (a b : List ℕ) → with_output (entry id len after) a ≡ with_output (end n) b → ⊥
   clash id len after n a b e =
       let f : entry id len after ≡ end n = ap (λ (g : WithOutput Stepping). g.answer) e in
-      let z : ◌≡◌ {A = ℕ} 0 1 = cc in
-      omega arith
+      cc
 
   -- two entries that one step hands over are the same
   record SameEntry (id id' after after' : ℕ) (bytes bytes' : List ℕ) : Type 0 where

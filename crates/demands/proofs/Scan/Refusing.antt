@@ -3,7 +3,6 @@ use Prim.Native.Nat.{ℕ, ◌*◌, ◌/◌}
 use mathlib.Core.Path.{◌≡◌, refl}
 use mathlib.Core.Bool.{◌||◌}
 use mathlib.Core.List.{List}
-use native.Mathlib.Omega.{arith}
 use lib.ListN.{take}
 use Rattle.refusal.proofs.Cases.{either}
 use Rattle.page.specs.Size.{page_size}
@@ -20,7 +19,7 @@ RefusalLeaves out r = (number value : ℕ) → r.answer ≡ refused number value
 reached_leaves : (log out : List ℕ) (x : Reaching) → RefusalLeaves out (hand_reached log out x)
 unfolding hand_reached
 reached_leaves log out (reached page id len after) number value e =
-    hand_refused refused (entry id len (after * page_size)) log page len out number value (λ f. let z : ◌≡◌ {A = ℕ} 0 1 = cc in omega arith) e
+    hand_refused refused (entry id len (after * page_size)) log page len out number value (λ f. cc) e
 reached_leaves log out (ended cursor) number value e = refl
 reached_leaves log out (faulty n v) number value e = refl
 

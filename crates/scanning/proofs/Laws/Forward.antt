@@ -155,3 +155,6 @@ module _ {log : List ℕ} {range : Range} {from p : ℕ} (g : ForwardLoop log ra
         go : (k : ℕ) → page_count log ≤ p + k → forward log range k p ≡ forward_from log range from → ForwardLoop log range from q
         go zero m s = absurd (omega arith)
         go (suc k) m s = record { fuel = k; enough = omega (arith, again_later log range p q e); same = forward_again log range k p h q e ∙ s }
+
+-- a turn of the loop: each way out of it, and on
+pub ruleset forward_turn = (forward_stopped, forward_onward, again_later)

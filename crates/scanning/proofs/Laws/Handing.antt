@@ -12,6 +12,7 @@ use Rattle.scanning.specs.Step.{reached, ended, faulty, forward_from, entry, end
 use Rattle.catalog.specs.declared.state.State.{State}
 use Rattle.scanning.specs.declared.range.Range.{Range}
 use Rattle.catalog.proofs.Laws.Output.{hand_small, hand_copied}
+use Rattle.scanning.proofs.Laws.Forward.{reached_entry}
 
 module _ (log : List ℕ) (range : Range) (from : ℕ) (out : List ℕ) where
   pub advance_fault : (number value : ℕ) → faulty number value ≡ forward_from log range from → with_output (refused number value) out ≡ advance_of log range from out
@@ -33,6 +34,9 @@ module _ (log : List ℕ) (range : Range) (from : ℕ) (out : List ℕ) where
     pub advance_entry : (size cursor : ℕ) → size ≡ len → cursor ≡ after * page_size → len ≤ length out
         → with_output (entry id size cursor) (copied log page len out) ≡ advance_of log range from out
     advance_entry size cursor n c h = rw (advance_reached, hand_copied refused (entry id len (after * page_size)) log page len out h, n, c)
+
+-- where an entry is reached: that it lies in the log, and 10
+pub ruleset at_entry = (reached_entry, advance_small)
 
 module _ (store : List ℕ) (st : State) (range : Range) (cursor : ℕ) (out : List ℕ) where
   pub step_bad_state : bad_state store st.length ≡ true → with_output (refused 1 0) out ≡ step_of store st range cursor out
