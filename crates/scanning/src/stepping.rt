@@ -1,6 +1,5 @@
 // A step of a scan: forward to an entry of the range, which is handed over.
-ghost use Rattle.std.specs.Prelude.{◌≡◌, ◌<◌};
-ghost use Rattle.page.specs.Size.{page_count};
+ghost use Rattle.std.specs.Prelude.{◌≡◌};
 ghost use Rattle.page.specs.Entry.{entry_at};
 ghost use Rattle.catalog.specs.Output.{with_output};
 ghost use Rattle.scanning.specs.Step.{step_start, step_page, forward_from, advance_of, step_of, paper_stepped};
@@ -8,7 +7,7 @@ ghost use Rattle.scanning.specs.Private.{paper_met, paper_seen};
 
 use crate::range::Range;
 use catalog::Log;
-use page::{Entry, Mark, Page, Whole};
+use page::{Mark, Page, Whole};
 use refusal::Refusal;
 use std::ops::ControlFlow;
 
@@ -19,6 +18,34 @@ struct Met {
     entry: Whole,
 }
 
+impl Range {
+    // A start: 6, 7, then its entry if its id is in the range, or on to the page after it.
+    #[tactic(auto, unfolding(crate::specs::Step::step_start))]
+    fn see_start(self, page: Page<'_>) -> Result<ControlFlow<Met, usize>, Refusal>
+        ensures { paper_seen result ≡ step_start self page.entry.number (entry_at page.entry.log.now page.entry.number) }
+    {
+        let entry = page.whole()?;
+        if self.holds(entry.id) {
+            return Ok(ControlFlow::Break(Met {
+                page: page.number,
+                entry,
+            }));
+        }
+        Ok(ControlFlow::Continue(entry.after))
+    }
+
+    // One page: 5, a start, or on to the next.
+    #[tactic(auto, unfolding(crate::specs::Step::step_page))]
+    fn see_page(self, page: Page<'_>) -> Result<ControlFlow<Met, usize>, Refusal>
+        ensures { paper_seen result ≡ step_page page.entry.log.now self page.entry.number }
+    {
+        match page.mark()? {
+            Mark::Start => self.see_start(page),
+            Mark::Later => Ok(ControlFlow::Continue(page.number + 1)),
+        }
+    }
+}
+
 // A log, and the range whose entries a step looks for in it.
 #[derive(Clone, Copy)]
 struct Walk<'a> {
@@ -27,31 +54,6 @@ struct Walk<'a> {
 }
 
 impl Walk<'_> {
-    // A start: 6, 7, then its entry if its id is in the range, or on to the page after it.
-    #[tactic(auto, unfolding(crate::specs::Step::step_start))]
-    fn see_start(self, p: usize) -> Result<ControlFlow<Met, usize>, Refusal>
-        requires { p < page_count self.log.now }
-        ensures { paper_seen result ≡ step_start self.entry.range p (entry_at self.entry.log.now p) }
-    {
-        let entry = Entry::read(self.log, p).whole(p)?;
-        if self.range.holds(entry.id) {
-            return Ok(ControlFlow::Break(Met { page: p, entry }));
-        }
-        Ok(ControlFlow::Continue(entry.after))
-    }
-
-    // One page: 5, a start, or on to the next.
-    #[tactic(auto, unfolding(crate::specs::Step::step_page))]
-    fn see_page(self, p: usize) -> Result<ControlFlow<Met, usize>, Refusal>
-        requires { p < page_count self.log.now }
-        ensures { paper_seen result ≡ step_page self.entry.log.now self.entry.range p }
-    {
-        match Mark::read(self.log, p)? {
-            Mark::Start => self.see_start(p),
-            Mark::Later => Ok(ControlFlow::Continue(p + 1)),
-        }
-    }
-
     // From a page on to the first entry of the range; none where the log ends first. A `while`: an entry is passed with all its pages.
     #[tactic(auto, using(crate::proofs::Laws::Forward::forward_turn))]
     fn forward(self, from: usize) -> Result<Option<Met>, Refusal>
@@ -60,7 +62,11 @@ impl Walk<'_> {
         let pages = Page::count(self.log);
         let mut p = from;
         while p < pages {
-            match self.see_page(p)? {
+            let page = Page {
+                log: self.log,
+                number: p,
+            };
+            match self.range.see_page(page)? {
                 ControlFlow::Break(met) => return Ok(Some(met)),
                 ControlFlow::Continue(next) => p = next,
             }
@@ -84,7 +90,11 @@ impl Walk<'_> {
                 needed: length as u64,
             });
         }
-        page::copy_data(self.log, page, length, out);
+        let start = Page {
+            log: self.log,
+            number: page,
+        };
+        start.copy_data(&mut out[..length]);
         Ok(Stepped::Entry {
             id: entry.id,
             length: length as u64,

@@ -1,8 +1,0 @@
--- `see_start` meets its contract where it goes on. Assumes nothing.
-use mathlib.Core.Path.{refl, sym, ◌∙◌}
-use Rattle.page.proofs.Starting.{the_whole}
-use Rattle.scanning.proofs.Laws.Forward.{step_out}
-use Rattle.scanning.proofs.stepping.Walk.see_start.Goals as goal
-
-pub returns : goal.returns
-returns c = step_out _ _ _ _ _ _ (sym c.read.ensures ∙ the_whole _ _ c.in_ok-entry.ensures) (sym c.if-holds.ensures) _ refl
