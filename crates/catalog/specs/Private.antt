@@ -1,15 +1,11 @@
 -- What the contracts of private functions cite beside the rules' own definitions: the rules' answer for each case of a private type.
 use Rattle.std.specs.Prelude.{Result, Ok, Err}
-use Rattle.std.specs.declared.ops.ControlFlow.{ControlFlow}
-use Rattle.std.specs.declared.ops.ControlFlow.TheVariants.{Continue, Break}
 use Rattle.refusal.specs.Refusal.{number_of, value_of}
 use Rattle.refusal.specs.declared.Refusal.{Refusal}
 use Rattle.catalog.specs.Round.{Round, stop, again}
 use Rattle.catalog.specs.Check.{Checking, refused, Checkpoint, checkpoint}
-use Rattle.catalog.specs.Lookup.{Saying, ends, found, refused as unfound, below, above, back, Looking, Window as Pages, window, paper_look}
+use Rattle.catalog.specs.Lookup.{Saying, ends, found, refused as unfound, below, above, back}
 use Rattle.catalog.specs.declared.checking.Passed.{Passed}
-use Rattle.catalog.specs.declared.searching.Look.{Look}
-use Rattle.catalog.specs.declared.searching.Window.{Window}
 use Rattle.catalog.specs.declared.searching.Says.{Says}
 use Rattle.catalog.specs.declared.searching.Says.TheVariants.{Found, Below, Above, Back}
 
@@ -23,11 +19,3 @@ paper_says (Ok (Below stored after)) = below stored after
 paper_says (Ok (Above stored)) = above stored
 paper_says (Ok Back) = back
 paper_says (Err r) = ends (unfound (number_of r) (value_of r))
-
-abbrev pub paper_window : Window → Pages
-paper_window w = window w.lo w.hi w.a w.b
-
-abbrev pub paper_round : Result (ControlFlow Look Window) Refusal → Round Looking Pages
-paper_round (Ok (Break look)) = stop (paper_look (Ok look))
-paper_round (Ok (Continue w)) = again (paper_window w)
-paper_round (Err r) = stop (paper_look (Err r))

@@ -4,14 +4,13 @@ ghost use Rattle.page.specs.Size.{page_count};
 ghost use Rattle.page.specs.Entry.{entry_at};
 ghost use Rattle.catalog.specs.Guess.{offset_of};
 ghost use Rattle.catalog.specs.Output.{with_output};
-ghost use Rattle.catalog.specs.Lookup.{compared, saying_at, round_from, guess_in, search_of, find_of, lookup_of, paper_look};
-ghost use Rattle.catalog.specs.Private.{paper_says, paper_window, paper_round};
+ghost use Rattle.catalog.specs.Lookup.{compared, saying_at, search_of, find_of, lookup_of, paper_look};
+ghost use Rattle.catalog.specs.Private.{paper_says};
 
 use crate::log::Log;
 use page::{Mark, Page};
 use refusal::Refusal;
 use std::cmp::Ordering;
-use std::ops::ControlFlow;
 
 // Found with its data length, or absent where it would stand.
 #[derive(Clone, Copy, Debug, PartialEq, Eq)]
@@ -78,35 +77,7 @@ struct Window {
     b: u64,
 }
 
-// A round: guesses a page of the window, walks back to a start, and keeps the side of it that may hold the id.
-fn round(log: &[u8], id: u64, w: Window) -> Result<ControlFlow<Look, Window>, Refusal>
-    requires { (w.lo < w.hi) × (w.hi ≤ page_count log.now) × (w.a < id) × (id < w.b) × (length log.now ≤ 2 ^ 31) }
-    ensures { paper_round result ≡ round_from log.now id (paper_window w) (guess_in id (paper_window w)) }
-{
-    let guess = w.lo + offset(id - w.a, w.b - w.a, w.hi - w.lo);
-    let past = guess + 1;
-    for s in (w.lo..past).rev() {
-        match asked(Page { log, number: s }, id)? {
-            Says::Found { position, length } => {
-                return Ok(ControlFlow::Break(Look::Found { position, length }));
-            }
-            Says::Below { id: a, after } => {
-                return Ok(ControlFlow::Continue(Window {
-                    lo: after.max(past),
-                    a,
-                    ..w
-                }));
-            }
-            Says::Above { id: b } => {
-                return Ok(ControlFlow::Continue(Window { hi: s, b, ..w }));
-            }
-            Says::Back => {}
-        }
-    }
-    Ok(ControlFlow::Continue(Window { lo: past, ..w }))
-}
-
-// The rounds, at first over all pages.
+// The rounds: guess a page of the window, walk back to a start, and keep the side of it that may hold the id.
 fn search(log: &[u8], next: u64, id: u64) -> Result<Look, Refusal>
     requires { (1 ≤ id) × (id < next) × (length log.now ≤ 2 ^ 31) }
     ensures { paper_look result ≡ search_of log.now next id }
@@ -117,15 +88,37 @@ fn search(log: &[u8], next: u64, id: u64) -> Result<Look, Refusal>
         a: 0,
         b: next,
     };
-    while w.lo < w.hi {
-        match round(log, id, w)? {
-            ControlFlow::Break(look) => return Ok(look),
-            ControlFlow::Continue(left) => w = left,
+    'window: loop {
+        if w.hi <= w.lo {
+            break Ok(Look::Absent {
+                position: (w.hi * Page::SIZE) as u64,
+            });
         }
+        let guess = w.lo + offset(id - w.a, w.b - w.a, w.hi - w.lo);
+        let past = guess + 1;
+        for s in (w.lo..past).rev() {
+            match asked(Page { log, number: s }, id) {
+                Ok(Says::Found { position, length }) => {
+                    break 'window Ok(Look::Found { position, length });
+                }
+                Ok(Says::Below { id: a, after }) => {
+                    w = Window {
+                        lo: after.max(past),
+                        a,
+                        ..w
+                    };
+                    continue 'window;
+                }
+                Ok(Says::Above { id: b }) => {
+                    w = Window { hi: s, b, ..w };
+                    continue 'window;
+                }
+                Ok(Says::Back) => {}
+                Err(refusal) => break 'window Err(refusal),
+            }
+        }
+        w = Window { lo: past, ..w };
     }
-    Ok(Look::Absent {
-        position: (w.hi * Page::SIZE) as u64,
-    })
 }
 
 impl Log<'_> {

@@ -53,50 +53,47 @@ module _ {log : List ℕ} {next id : ℕ} {w : Window} (h : WindowLoop log next 
         same = q ∙ search_round log id w k l ∙ rw (← e);
       }
 
-  -- the window that is left is smaller
-  pub smaller : (left : Window) → w.lo < w.hi → again left ≡ round_from log id w (guess_in id w) → left.hi - left.lo < w.hi - w.lo
-  smaller left l e = let s = round_smaller log id w h.between (guess_in id w) (guess_inside id w l) left (sym e) in omega (arith, s.less)
-
 -- at the head of the walk back from the guess g: the pages below s are left
-pub record BackLoop (log : List ℕ) (id : ℕ) (w : Window) (g s : ℕ) : Type 0 where
+pub record BackLoop (log : List ℕ) (next id : ℕ) (w : Window) (g s : ℕ) : Type 0 where
+  pub around : WindowLoop log next id w
+  pub some : w.lo < w.hi
   pub low : w.lo ≤ s
   pub up : s ≤ w.hi
   pub walked : rest_of log id w g (s - w.lo) ≡ round_from log id w (guess_in id w)
 
-pub guessed : (log : List ℕ) (id : ℕ) (w : Window) (g past : ℕ) → w.lo < w.hi → g ≡ guess_in id w → past ≡ g + 1 → BackLoop log id w g past
-guessed log id w g past l e q =
+pub guessed : {log : List ℕ} {next id : ℕ} {w : Window} → WindowLoop log next id w → w.lo < w.hi → (g past : ℕ) → g ≡ guess_in id w → past ≡ g + 1 → BackLoop log next id w g past
+guessed {log} {next} {id} {w} h l g past e q =
     let i = guess_inside id w l in
     let low : w.lo ≤ g = rw e i.low in
     let high : g < w.hi = rw e i.high in
     let z : past - w.lo ≡ suc (g - w.lo) = omega arith in
-    record { low = omega arith; up = omega arith; walked = rw (z, e) }
+    record { around = h; some = l; low = omega arith; up = omega arith; walked = rw (z, e) }
 
-module _ {log : List ℕ} {id : ℕ} {w : Window} {g s : ℕ} (h : BackLoop log id w g s) (l : w.lo < s) where
-  -- the round is what the page before s says
-  turn : (x : Saying) → x ≡ saying_at log id (s - 1) → turned w g (s - 1) (rest_of log id w g (s - 1 - w.lo)) x ≡ round_from log id w (guess_in id w)
-  turn x e =
-      let z : s - w.lo ≡ suc (s - 1 - w.lo) = omega arith in
-      rw e (sym (walk_at log id w g (s - 1 - w.lo) (s - 1) (omega arith)) ∙ rw z at h.walked)
+module _ {log : List ℕ} {next id : ℕ} {w : Window} {g s : ℕ} (h : BackLoop log next id w g s) where
+  module _ (l : w.lo < s) where
+    -- the round is what the page before s says
+    turn : (x : Saying) → x ≡ saying_at log id (s - 1) → turned w g (s - 1) (rest_of log id w g (s - 1 - w.lo)) x ≡ round_from log id w (guess_in id w)
+    turn x e =
+        let z : s - w.lo ≡ suc (s - 1 - w.lo) = omega arith in
+        rw e (sym (walk_at log id w g (s - 1 - w.lo) (s - 1) (omega arith)) ∙ rw z at h.walked)
 
-  pub page_ends : (r : Looking) → ends r ≡ saying_at log id (s - 1) → stop r ≡ round_from log id w (guess_in id w)
-  unfolding turned
-  page_ends r e = turn (ends r) e
+    pub page_ends : (r : Looking) → ends r ≡ saying_at log id (s - 1) → r ≡ search_of log next id
+    unfolding turned
+    page_ends r e = stopped h.around r h.some (turn (ends r) e)
 
-  pub page_below : (stored after lo' : ℕ) → below stored after ≡ saying_at log id (s - 1) → lo' ≡ max (g + 1) after
-      → again (window lo' w.hi stored w.b) ≡ round_from log id w (guess_in id w)
-  unfolding turned
-  page_below stored after lo' e m = rw m (turn (below stored after) e)
+    pub page_below : (stored after lo' : ℕ) → below stored after ≡ saying_at log id (s - 1) → lo' ≡ max (g + 1) after → WindowLoop log next id (window lo' w.hi stored w.b)
+    unfolding turned
+    page_below stored after lo' e m = narrowed h.around _ h.some (rw m (turn (below stored after) e))
 
-  pub page_above : (stored hi' : ℕ) → above stored ≡ saying_at log id (s - 1) → hi' ≡ s - 1 → again (window w.lo hi' w.a stored) ≡ round_from log id w (guess_in id w)
-  unfolding turned
-  page_above stored hi' e m = rw m (turn (above stored) e)
+    pub page_above : (stored hi' : ℕ) → above stored ≡ saying_at log id (s - 1) → hi' ≡ s - 1 → WindowLoop log next id (window w.lo hi' w.a stored)
+    unfolding turned
+    page_above stored hi' e m = narrowed h.around _ h.some (rw m (turn (above stored) e))
 
-  pub further_back : back ≡ saying_at log id (s - 1) → BackLoop log id w g (s - 1)
-  unfolding turned
-  further_back e = record { low = omega arith; up = omega (arith, h.up); walked = turn back e }
+    pub further_back : back ≡ saying_at log id (s - 1) → BackLoop log next id w g (s - 1)
+    unfolding turned
+    further_back e = record { around = h.around; some = h.some; low = omega arith; up = omega (arith, h.up); walked = turn back e }
 
-pub none_back : {log : List ℕ} {id : ℕ} {w : Window} {g s : ℕ} → BackLoop log id w g s → s ≤ w.lo → (lo' : ℕ) → lo' ≡ g + 1
-    → again (window lo' w.hi w.a w.b) ≡ round_from log id w (guess_in id w)
-none_back {w = w} {s = s} h l lo' m =
-    let z : s - w.lo ≡ 0 = omega (arith, h.low) in
-    rw m (rw z at h.walked)
+  pub none_back : s ≤ w.lo → (lo' : ℕ) → lo' ≡ g + 1 → WindowLoop log next id (window lo' w.hi w.a w.b)
+  none_back l lo' m =
+      let z : s - w.lo ≡ 0 = omega (arith, h.low) in
+      narrowed h.around _ h.some (rw m (rw z at h.walked))

@@ -1,29 +1,47 @@
--- `search` meets its contract: what a round comes to is one law of `Windows`. Assumes nothing.
+-- `search` meets its contract: each way through the loops is one law of `Windows`. Assumes nothing.
+use Prim.Native.Nat.{ℕ, ◌+◌}
+use mathlib.Core.Path.{refl, ap}
 use native.Mathlib.Omega.{arith}
-use Rattle.std.proofs.lemmas.Result.{err_from_is_err_and}
-use Rattle.catalog.specs.Private.{paper_window}
+use Rattle.catalog.specs.Lookup.{window}
+use Rattle.catalog.proofs.Laws.Lookup.Rounds.{guess_inside}
 use Rattle.catalog.proofs.Laws.Lookup.Windows as windows
 use Rattle.catalog.proofs.searching.search.Goals as goal
 
-pub loop-w-init : goal.loop-w-init
-loop-w-init c = windows.opened _ _ _ _ c.count.ensures (omega arith) (omega arith)
+pub window-init : goal.window-init
+window-init c = windows.opened _ _ _ _ c.count.ensures (omega arith) (omega arith)
 
-pub round-requires : goal.round-requires
-round-requires c = let h = c.loop-w.invariant in (omega arith, h.top, h.between.lower, h.between.upper, omega arith)
+pub overflow_add-guess : goal.overflow_add-guess
+overflow_add-guess c =
+    let v = c.window.w in
+    let i = guess_inside c.args.id (window v.lo v.hi v.a v.b) (omega arith) in
+    omega (arith, i.high)
 
-pub returns-in_err-look : goal.returns-in_err-look
-returns-in_err-look c =
-    let e = err_from_is_err_and c.from_residual.result c.from_residual.ensures.1 in
-    rw (e.1, e.2) (windows.stopped c.loop-w.invariant _ (omega arith) c.in_err-look.ensures)
+pub overflow_add-past : goal.overflow_add-past
+overflow_add-past c =
+    let v = c.window.w in
+    let i = guess_inside c.args.id (window v.lo v.hi v.a v.b) (omega arith) in
+    omega (arith, i.high)
 
-pub returns-in-Break : goal.returns-in-Break
-returns-in-Break c = windows.stopped c.loop-w.invariant _ (omega arith) (rw c.in-Break.is at c.in_ok-look.ensures)
+pub loop-s-init : goal.loop-s-init
+loop-s-init c = (refl, refl, windows.guessed c.window.invariant (omega arith) _ _ (ap (λ (o : ℕ). c.window.w.lo + o) c.offset.ensures) (omega arith))
 
-pub loop-w-smaller : goal.loop-w-smaller
-loop-w-smaller c = windows.smaller c.loop-w.invariant (paper_window c.in-Continue.left) (omega arith) (rw c.in-Continue.is at c.in_ok-look.ensures)
+pub window-preserved-in-Ok-Below : goal.window-preserved-in-Ok-Below
+window-preserved-in-Ok-Below c = windows.page_below c.loop-s.invariant.2 (omega arith) _ _ _ (rw c.in-Ok-Below.field-0-is at c.in-Ok-Below.ensures) (omega arith)
 
-pub loop-w-preserved : goal.loop-w-preserved
-loop-w-preserved c = windows.narrowed c.loop-w.invariant _ (omega arith) (rw c.in-Continue.is at c.in_ok-look.ensures)
+pub window-preserved-in-Ok-Above : goal.window-preserved-in-Ok-Above
+window-preserved-in-Ok-Above c = windows.page_above c.loop-s.invariant.2 (omega arith) _ _ (rw c.in-Ok-Above.field-0-is at c.in-Ok-Above.ensures) (omega arith)
 
-pub returns : goal.returns
-returns c = windows.window_empty c.loop-w.invariant (omega arith)
+pub loop-s-preserved : goal.loop-s-preserved
+loop-s-preserved c = (c.loop-s.invariant.0, c.loop-s.invariant.1, windows.further_back c.loop-s.invariant.2 (omega arith) (rw c.in-Ok-Back.field-0-is at c.in-Ok-Back.ensures))
+
+pub window-preserved : goal.window-preserved
+window-preserved c = windows.none_back c.loop-s.invariant.2 (omega arith) _ (omega arith)
+
+pub returns-then-w : goal.returns-then-w
+returns-then-w c = windows.window_empty c.window.invariant (omega arith)
+
+pub returns-in-Ok-Found : goal.returns-in-Ok-Found
+returns-in-Ok-Found c = windows.page_ends c.loop-s.invariant.2 (omega arith) _ (rw c.in-Ok-Found.field-0-is at c.in-Ok-Found.ensures)
+
+pub returns-in-Err : goal.returns-in-Err
+returns-in-Err c = windows.page_ends c.loop-s.invariant.2 (omega arith) _ c.in-Err.ensures
