@@ -1,39 +1,35 @@
 -- What stands in an answer's numbers, each with the equation that it has to meet. Assumes nothing.
 use Prim.Native.Nat.{ℕ}
 use mathlib.Core.Path.{◌≡◌}
-use mathlib.Core.Bool.{Bool}
-use borrow.Author.Tests.{eq-eqb, ne_eqb}
 use Rattle.catalog.specs.Lookup.{found}
 use Rattle.scanning.specs.Step.{refused as unstepped}
-use Rattle.scanning.specs.declared.End.{End}
-use Rattle.scanning.specs.declared.End.TheVariants.{Excluded}
 use Rattle.pushing.specs.Push.{paper_reason, paper_pushed}
 use Rattle.pushing.specs.declared.Pushed.{Pushed}
 use Rattle.awirbesh.specs.State.{state_numbers}
-use Rattle.awirbesh.specs.Read.{end_from, look_numbers, stepped_numbers}
+use Rattle.awirbesh.specs.Read.{look_numbers, stepped_numbers}
 use Rattle.awirbesh.specs.Push.{reason_number, pushed_numbers}
-use Rattle.awirbesh.specs.Sequence.{yes_number}
 use Rattle.awirbesh.specs.declared.state.StateNumbers.{StateNumbers}
 use Rattle.awirbesh.specs.declared.state.TakenNumbers.{TakenNumbers}
 use Rattle.awirbesh.specs.declared.state.RaisedNumbers.{RaisedNumbers}
-use Rattle.awirbesh.specs.declared.reading.EndNumbers.{EndNumbers}
 use Rattle.awirbesh.specs.declared.reading.LookNumbers.{LookNumbers}
 use Rattle.awirbesh.specs.declared.reading.SteppedNumbers.{SteppedNumbers}
 use Rattle.awirbesh.specs.declared.writing.PushedNumbers.{PushedNumbers}
 
 -- found is 1 for what was found
-abbrev looked : ℕ → ℕ → ℕ → LookNumbers
-looked flag position len = record { number = 0; value = 0; found = flag; position = position; length = len }
+abbrev looked : ℕ → ℕ → ℕ → ℕ → ℕ → LookNumbers
+looked number value flag position len = record { number = number; value = value; found = flag; position = position; length = len }
 
-pub found_is : (flag position len : ℕ) → flag ≡ 1 → looked flag position len ≡ look_numbers (found position len)
-found_is flag position len e = rw e
+pub found_is : (number value flag position len : ℕ) → number ≡ 0 → value ≡ 0 → flag ≡ 1
+    → looked number value flag position len ≡ look_numbers (found position len)
+found_is number value flag position len a b e = rw (a, b, e)
 
 -- a refused step has the cursor given
-abbrev unstepping : ℕ → ℕ → ℕ → SteppedNumbers
-unstepping number value cursor = record { number = number; value = value; kind = 0; id = 0; length = 0; cursor = cursor }
+abbrev stepping : ℕ → ℕ → ℕ → ℕ → ℕ → ℕ → SteppedNumbers
+stepping number value kind id len cursor = record { number = number; value = value; kind = kind; id = id; length = len; cursor = cursor }
 
-pub cursor_is : (given number value cursor : ℕ) → cursor ≡ given → unstepping number value cursor ≡ stepped_numbers given (unstepped number value)
-cursor_is given number value cursor e = rw e
+pub cursor_is : (given number value kind id len cursor : ℕ) → kind ≡ 0 → id ≡ 0 → len ≡ 0 → cursor ≡ given
+    → stepping number value kind id len cursor ≡ stepped_numbers given (unstepped number value)
+cursor_is given number value kind id len cursor a b c e = rw (a, b, c, e)
 
 -- a refused take has the state given, and so has a refused raising
 abbrev numbers_of : ℕ → ℕ → ℕ → ℕ → StateNumbers
@@ -67,11 +63,3 @@ pushed_by number written st = record { number = number; written = written; state
 pub reason_is : (pushed : Pushed) (number : ℕ) → number ≡ reason_number (paper_reason pushed.reason)
     → pushed_by number pushed.written (state_numbers pushed.state) ≡ pushed_numbers (paper_pushed pushed)
 reason_is pushed number e = rw e
-
--- 1 for yes
-pub yes_is : (answer : Bool) (given : Bool) (number : ℕ) → answer ≡ given → number ≡ yes_number given → number ≡ yes_number answer
-yes_is answer given number a e = rw a e
-
--- kind 2 is excluded
-pub excluded_is : (numbers : EndNumbers) → (numbers.kind ≡ 1 → ⊥) → numbers.kind ≡ 2 → (end : End) → end ≡ Excluded numbers.id → end ≡ end_from numbers
-excluded_is numbers a b end e = rw (e, ne_eqb numbers.kind 1 a, eq-eqb numbers.kind 2 b)

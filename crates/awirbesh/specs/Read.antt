@@ -4,8 +4,8 @@ use Rattle.refusal.specs.Pick.{pick}
 use Rattle.catalog.specs.Lookup.{Looking, found, absent, refused}
 use Rattle.scanning.specs.Scan.{Beginning, at, refused as unstarted}
 use Rattle.scanning.specs.Step.{Stepping, entry, end, refused as unstepped}
-use Rattle.scanning.specs.declared.End.{End}
-use Rattle.scanning.specs.declared.End.TheVariants.{Open, Included, Excluded}
+use Rattle.std.specs.declared.ops.Bound.{Bound}
+use Rattle.std.specs.declared.ops.Bound.TheVariants.{Unbounded, Included, Excluded}
 use Rattle.scanning.specs.declared.Range.{Range}
 use Rattle.awirbesh.specs.declared.reading.EndNumbers.{EndNumbers}
 use Rattle.awirbesh.specs.declared.reading.RangeNumbers.{RangeNumbers}
@@ -14,8 +14,8 @@ use Rattle.awirbesh.specs.declared.reading.StartedNumbers.{StartedNumbers}
 use Rattle.awirbesh.specs.declared.reading.SteppedNumbers.{SteppedNumbers}
 
 -- 9.1 "is included, excluded or open": kind 1, 2, any other
-abbrev pub end_from : EndNumbers → End
-end_from e = pick (eqb e.kind 1) (Included e.id) (pick (eqb e.kind 2) (Excluded e.id) Open)
+abbrev pub end_from : EndNumbers → Bound ℕ
+end_from e = pick (eqb e.kind 1) (Included e.id) (pick (eqb e.kind 2) (Excluded e.id) Unbounded)
 
 abbrev pub range_from : RangeNumbers → Range
 range_from r = record { lower = end_from r.lower; upper = end_from r.upper }

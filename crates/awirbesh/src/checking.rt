@@ -4,19 +4,19 @@ ghost use Rattle.catalog.specs.Check.{check_of, paper_checked};
 ghost use Rattle.catalog.specs.Recovery.{recover_of, paper_recovered};
 ghost use Rattle.awirbesh.specs.Check.{checked_numbers, recovered_numbers};
 
-use crate::state;
 use crate::state::StateNumbers;
-use catalog::{Checked, Recovered};
+use catalog::Recovered;
+use refusal::Refusal;
 
 #[repr(C)]
-#[derive(Clone, Copy)]
+#[derive(Clone, Copy, Default)]
 pub struct CheckedNumbers {
     pub number: u64,
     pub value: u64,
 }
 
 #[repr(C)]
-#[derive(Clone, Copy)]
+#[derive(Clone, Copy, Default)]
 pub struct RecoveredNumbers {
     pub number: u64,
     pub value: u64,
@@ -25,48 +25,37 @@ pub struct RecoveredNumbers {
     pub state: StateNumbers,
 }
 
-fn checked_numbers(checked: Checked) -> CheckedNumbers
-    ensures { result ≡ checked_numbers (paper_checked checked) }
-{
-    match checked {
-        Checked::Sound => CheckedNumbers {
-            number: 0,
-            value: 0,
-        },
-        Checked::Refused(refusal) => CheckedNumbers {
-            number: refusal.number(),
-            value: refusal.value(),
-        },
+impl From<Result<(), Refusal>> for CheckedNumbers {
+    ghost from_gives = { λ checked n. n ≡ checked_numbers (paper_checked checked) };
+
+    fn from(checked: Result<(), Refusal>) -> Self {
+        match checked {
+            Ok(()) => Self::default(),
+            Err(refusal) => Self {
+                number: refusal.number(),
+                value: refusal.value(),
+            },
+        }
     }
 }
 
-fn recovered_numbers(recovered: Recovered) -> RecoveredNumbers
-    ensures { result ≡ recovered_numbers (paper_recovered recovered) }
-{
-    match recovered {
-        Recovered::At {
-            state,
-            excess,
-            dropped,
-        } => RecoveredNumbers {
-            number: 0,
-            value: 0,
-            excess,
-            dropped,
-            state: state::state_numbers(state),
-        },
-        Recovered::Refused(refusal) => RecoveredNumbers {
-            number: refusal.number(),
-            value: refusal.value(),
-            excess: 0,
-            dropped: 0,
-            state: StateNumbers {
-                length: 0,
-                last: 0,
-                next: 0,
-                ceiling: 0,
+impl From<Result<Recovered, Refusal>> for RecoveredNumbers {
+    ghost from_gives = { λ recovered n. n ≡ recovered_numbers (paper_recovered recovered) };
+
+    fn from(recovered: Result<Recovered, Refusal>) -> Self {
+        match recovered {
+            Ok(recovered) => Self {
+                excess: recovered.excess,
+                dropped: recovered.dropped,
+                state: recovered.state.into(),
+                ..Self::default()
             },
-        },
+            Err(refusal) => Self {
+                number: refusal.number(),
+                value: refusal.value(),
+                ..Self::default()
+            },
+        }
     }
 }
 
@@ -74,12 +63,12 @@ fn recovered_numbers(recovered: Recovered) -> RecoveredNumbers
 pub extern "C" fn awirbesh_check(store: &[u8], length: u64) -> CheckedNumbers
     ensures { result ≡ checked_numbers (check_of store.now length) }
 {
-    checked_numbers(catalog::check(store, length))
+    catalog::check(store, length).into()
 }
 
 #[unsafe(no_mangle)]
 pub extern "C" fn awirbesh_recover(store: &[u8], length: u64, stored: u64) -> RecoveredNumbers
     ensures { result ≡ recovered_numbers (recover_of store.now length stored) }
 {
-    recovered_numbers(catalog::recover(store, length, stored))
+    catalog::recover(store, length, stored).into()
 }

@@ -6,10 +6,11 @@ ghost use Rattle.scanning.specs.Step.{step_of, paper_stepped};
 ghost use Rattle.awirbesh.specs.State.{state_from};
 ghost use Rattle.awirbesh.specs.Read.{end_from, range_from, look_numbers, started_numbers, stepped_numbers};
 
-use crate::state;
 use crate::state::StateNumbers;
-use catalog::Look;
-use scanning::{End, Range, Started, Stepped};
+use catalog::{Log, Look};
+use refusal::Refusal;
+use scanning::{Range, Stepped};
+use std::ops::Bound;
 
 // One end of a range: kind 1 is included, 2 is excluded, any other is open.
 #[repr(C)]
@@ -26,8 +27,9 @@ pub struct RangeNumbers {
     pub upper: EndNumbers,
 }
 
+// found is 1 for an id that was found, 0 for an absent one.
 #[repr(C)]
-#[derive(Clone, Copy)]
+#[derive(Clone, Copy, Default)]
 pub struct LookNumbers {
     pub number: u64,
     pub value: u64,
@@ -37,7 +39,7 @@ pub struct LookNumbers {
 }
 
 #[repr(C)]
-#[derive(Clone, Copy)]
+#[derive(Clone, Copy, Default)]
 pub struct StartedNumbers {
     pub number: u64,
     pub value: u64,
@@ -46,7 +48,7 @@ pub struct StartedNumbers {
 
 // kind 1 is an entry, 0 the end.
 #[repr(C)]
-#[derive(Clone, Copy)]
+#[derive(Clone, Copy, Default)]
 pub struct SteppedNumbers {
     pub number: u64,
     pub value: u64,
@@ -56,103 +58,95 @@ pub struct SteppedNumbers {
     pub cursor: u64,
 }
 
-fn end_from(end: EndNumbers) -> End
-    ensures { result ≡ end_from end }
-{
-    if end.kind == 1 {
-        return End::Included(end.id);
-    }
-    if end.kind == 2 {
-        return End::Excluded(end.id);
-    }
-    End::Open
-}
+impl From<EndNumbers> for Bound<u64> {
+    ghost from_gives = { λ n e. e ≡ end_from n };
 
-fn range_from(range: RangeNumbers) -> Range
-    ensures { result ≡ range_from range }
-{
-    let lower = range.lower;
-    let upper = range.upper;
-    Range {
-        lower: end_from(lower),
-        upper: end_from(upper),
+    fn from(end: EndNumbers) -> Self {
+        match end.kind {
+            1 => Self::Included(end.id),
+            2 => Self::Excluded(end.id),
+            _ => Self::Unbounded,
+        }
     }
 }
 
-fn look_numbers(look: Look) -> LookNumbers
-    ensures { result ≡ look_numbers (paper_look look) }
-{
-    match look {
-        Look::Found { position, length } => LookNumbers {
-            number: 0,
-            value: 0,
-            found: 1,
-            position,
-            length,
-        },
-        Look::Absent { position } => LookNumbers {
-            number: 0,
-            value: 0,
-            found: 0,
-            position,
-            length: 0,
-        },
-        Look::Refused(refusal) => LookNumbers {
-            number: refusal.number(),
-            value: refusal.value(),
-            found: 0,
-            position: 0,
-            length: 0,
-        },
+impl From<RangeNumbers> for Range {
+    ghost from_gives = { λ n r. r ≡ range_from n };
+
+    fn from(range: RangeNumbers) -> Self {
+        Self {
+            lower: range.lower.into(),
+            upper: range.upper.into(),
+        }
     }
 }
 
-fn started_numbers(started: Started) -> StartedNumbers
-    ensures { result ≡ started_numbers (paper_started started) }
-{
-    match started {
-        Started::At { cursor } => StartedNumbers {
-            number: 0,
-            value: 0,
-            cursor,
-        },
-        Started::Refused(refusal) => StartedNumbers {
-            number: refusal.number(),
-            value: refusal.value(),
-            cursor: 0,
-        },
+impl From<Result<Look, Refusal>> for LookNumbers {
+    ghost from_gives = { λ look n. n ≡ look_numbers (paper_look look) };
+
+    fn from(look: Result<Look, Refusal>) -> Self {
+        match look {
+            Ok(Look::Found { position, length }) => Self {
+                found: 1,
+                position,
+                length,
+                ..Self::default()
+            },
+            Ok(Look::Absent { position }) => Self {
+                position,
+                ..Self::default()
+            },
+            Err(refusal) => Self {
+                number: refusal.number(),
+                value: refusal.value(),
+                ..Self::default()
+            },
+        }
     }
 }
 
-// A refusal leaves the cursor as it was given.
-fn stepped_numbers(given: u64, stepped: Stepped) -> SteppedNumbers
-    ensures { result ≡ stepped_numbers given (paper_stepped stepped) }
-{
-    match stepped {
-        Stepped::Entry { id, length, cursor } => SteppedNumbers {
-            number: 0,
-            value: 0,
-            kind: 1,
-            id,
-            length,
-            cursor,
-        },
-        Stepped::End { cursor } => SteppedNumbers {
-            number: 0,
-            value: 0,
-            kind: 0,
-            id: 0,
-            length: 0,
-            cursor,
-        },
-        Stepped::Refused(refusal) => SteppedNumbers {
-            number: refusal.number(),
-            value: refusal.value(),
-            kind: 0,
-            id: 0,
-            length: 0,
-            cursor: given,
-        },
+impl From<Result<u64, Refusal>> for StartedNumbers {
+    ghost from_gives = { λ started n. n ≡ started_numbers (paper_started started) };
+
+    fn from(started: Result<u64, Refusal>) -> Self {
+        match started {
+            Ok(cursor) => Self {
+                cursor,
+                ..Self::default()
+            },
+            Err(refusal) => Self {
+                number: refusal.number(),
+                value: refusal.value(),
+                ..Self::default()
+            },
+        }
+    }
+}
+
+impl SteppedNumbers {
+    // A refusal leaves the cursor as it was given.
+    fn new(given: u64, stepped: Result<Stepped, Refusal>) -> Self
+        ensures { result ≡ stepped_numbers given (paper_stepped stepped) }
+    {
+        match stepped {
+            Ok(Stepped::Entry { id, length, cursor }) => Self {
+                kind: 1,
+                id,
+                length,
+                cursor,
+                ..Self::default()
+            },
+            Ok(Stepped::End { cursor }) => Self {
+                cursor,
+                ..Self::default()
+            },
+            Err(refusal) => Self {
+                number: refusal.number(),
+                value: refusal.value(),
+                cursor: given,
+                ..Self::default()
+            },
+        }
     }
 }
 
@@ -160,7 +154,8 @@ fn stepped_numbers(given: u64, stepped: Stepped) -> SteppedNumbers
 pub extern "C" fn awirbesh_find(store: &[u8], state: StateNumbers, id: u64) -> LookNumbers
     ensures { result ≡ look_numbers (find_of store.now (state_from state) id) }
 {
-    look_numbers(catalog::find(store, state::state_from(state), id))
+    let state = state.into();
+    Log { store, state }.find(id).into()
 }
 
 #[unsafe(no_mangle)]
@@ -173,7 +168,8 @@ pub extern "C" fn awirbesh_lookup(
     ensures value { result ≡ look_numbers (lookup_of store.now (state_from state) id out.old).answer }
     ensures out_after { out.new ≡ (lookup_of store.now (state_from state) id out.old).out }
 {
-    look_numbers(catalog::lookup(store, state::state_from(state), id, out))
+    let state = state.into();
+    Log { store, state }.lookup(id, out).into()
 }
 
 #[unsafe(no_mangle)]
@@ -184,7 +180,8 @@ pub extern "C" fn awirbesh_scan(
 ) -> StartedNumbers
     ensures { result ≡ started_numbers (scan_of store.now (state_from state) (range_from range)) }
 {
-    started_numbers(scanning::scan(store, state::state_from(state), range_from(range)))
+    let state = state.into();
+    scanning::scan(Log { store, state }, range.into()).into()
 }
 
 #[unsafe(no_mangle)]
@@ -198,14 +195,7 @@ pub extern "C" fn awirbesh_step(
     ensures value { result ≡ stepped_numbers cursor (step_of store.now (state_from state) (range_from range) cursor out.old).answer }
     ensures out_after { out.new ≡ (step_of store.now (state_from state) (range_from range) cursor out.old).out }
 {
-    stepped_numbers(
-        cursor,
-        scanning::step(
-            store,
-            state::state_from(state),
-            range_from(range),
-            cursor,
-            out,
-        ),
-    )
+    let state = state.into();
+    let stepped = scanning::step(Log { store, state }, range.into(), cursor, out);
+    SteppedNumbers::new(cursor, stepped)
 }

@@ -3,7 +3,8 @@ ghost use Rattle.std.specs.Prelude.{◌≡◌};
 ghost use Rattle.sequence.specs.Sequence.{new_of, note_of, complete_of, paper_noted};
 ghost use Rattle.awirbesh.specs.Sequence.{sequence_from, sequence_numbers, noted_numbers, yes_number};
 
-use sequence::{IdSequence, Noted};
+use refusal::Refusal;
+use sequence::IdSequence;
 
 #[repr(C)]
 #[derive(Clone, Copy)]
@@ -19,38 +20,43 @@ pub struct NotedNumbers {
     pub sequence: SequenceNumbers,
 }
 
-// The library's sequence with these numbers.
-fn sequence_from(numbers: SequenceNumbers) -> IdSequence
-    ensures { result ≡ sequence_from numbers }
-{
-    IdSequence {
-        start: numbers.start,
-        after: numbers.after,
+impl From<SequenceNumbers> for IdSequence {
+    ghost from_gives = { λ n s. s ≡ sequence_from n };
+
+    fn from(numbers: SequenceNumbers) -> Self {
+        Self {
+            start: numbers.start,
+            after: numbers.after,
+        }
     }
 }
 
-fn sequence_numbers(ids: IdSequence) -> SequenceNumbers
-    ensures { result ≡ sequence_numbers ids }
-{
-    SequenceNumbers {
-        start: ids.start,
-        after: ids.after,
+impl From<IdSequence> for SequenceNumbers {
+    ghost from_gives = { λ s n. n ≡ sequence_numbers s };
+
+    fn from(ids: IdSequence) -> Self {
+        Self {
+            start: ids.start,
+            after: ids.after,
+        }
     }
 }
 
-// A refusal leaves the sequence as it was given.
-fn noted_numbers(given: SequenceNumbers, noted: Noted) -> NotedNumbers
-    ensures { result ≡ noted_numbers given (paper_noted noted) }
-{
-    match noted {
-        Noted::At(ids) => NotedNumbers {
-            number: 0,
-            sequence: sequence_numbers(ids),
-        },
-        Noted::Refused(refusal) => NotedNumbers {
-            number: refusal.number(),
-            sequence: given,
-        },
+impl NotedNumbers {
+    // A refusal leaves the sequence as it was given.
+    fn new(given: SequenceNumbers, noted: Result<IdSequence, Refusal>) -> Self
+        ensures { result ≡ noted_numbers given (paper_noted noted) }
+    {
+        match noted {
+            Ok(ids) => Self {
+                number: 0,
+                sequence: ids.into(),
+            },
+            Err(refusal) => Self {
+                number: refusal.number(),
+                sequence: given,
+            },
+        }
     }
 }
 
@@ -58,7 +64,7 @@ fn noted_numbers(given: SequenceNumbers, noted: Noted) -> NotedNumbers
 pub extern "C" fn awirbesh_sequence_new(start: u64) -> SequenceNumbers
     ensures { result ≡ sequence_numbers (new_of start) }
 {
-    sequence_numbers(IdSequence::new(start))
+    IdSequence::new(start).into()
 }
 
 #[unsafe(no_mangle)]
@@ -70,8 +76,7 @@ pub extern "C" fn awirbesh_sequence_note(
     ensures value { result ≡ noted_numbers sequence (note_of (sequence_from sequence) words.old id).answer }
     ensures words_after { words.new ≡ (note_of (sequence_from sequence) words.old id).words }
 {
-    let ids = sequence_from(sequence);
-    noted_numbers(sequence, ids.note(words, id))
+    NotedNumbers::new(sequence, IdSequence::from(sequence).note(words, id))
 }
 
 // 1 for yes, 0 for no.
@@ -79,6 +84,5 @@ pub extern "C" fn awirbesh_sequence_note(
 pub extern "C" fn awirbesh_sequence_complete(sequence: SequenceNumbers) -> u64
     ensures { result ≡ yes_number (complete_of (sequence_from sequence)) }
 {
-    let ids = sequence_from(sequence);
-    if ids.complete() { 1 } else { 0 }
+    u64::from(IdSequence::from(sequence).complete())
 }

@@ -4,9 +4,9 @@ ghost use Rattle.pushing.specs.Push.{push_of, paper_reason, paper_pushed};
 ghost use Rattle.awirbesh.specs.State.{state_from};
 ghost use Rattle.awirbesh.specs.Push.{reason_number, pushed_numbers};
 
-use crate::state;
 use crate::state::StateNumbers;
-use pushing::{Pushed, Reason};
+use pushing::Pushed;
+use refusal::Refusal;
 
 #[repr(C)]
 #[derive(Clone, Copy)]
@@ -16,24 +16,21 @@ pub struct PushedNumbers {
     pub state: StateNumbers,
 }
 
-fn reason_number(reason: Reason) -> u64
+fn reason_number(reason: Option<Refusal>) -> u64
     ensures { result ≡ reason_number (paper_reason reason) }
 {
-    match reason {
-        Reason::None => 0,
-        Reason::Refused(refusal) => refusal.number(),
-    }
+    reason.map_or(0, Refusal::number)
 }
 
-fn pushed_numbers(pushed: Pushed) -> PushedNumbers
-    ensures { result ≡ pushed_numbers (paper_pushed pushed) }
-{
-    let reason = pushed.reason;
-    let after = pushed.state;
-    PushedNumbers {
-        number: reason_number(reason),
-        written: pushed.written,
-        state: state::state_numbers(after),
+impl From<Pushed> for PushedNumbers {
+    ghost from_gives = { λ pushed n. n ≡ pushed_numbers (paper_pushed pushed) };
+
+    fn from(pushed: Pushed) -> Self {
+        Self {
+            number: reason_number(pushed.reason),
+            written: pushed.written,
+            state: pushed.state.into(),
+        }
     }
 }
 
@@ -48,5 +45,5 @@ pub extern "C" fn awirbesh_push(
     ensures value { result ≡ pushed_numbers (push_of store.old (state_from state) ids.now ends.now bytes.now).answer }
     ensures store_after { store.new ≡ (push_of store.old (state_from state) ids.now ends.now bytes.now).store }
 {
-    pushed_numbers(pushing::push(store, state::state_from(state), ids, ends, bytes))
+    pushing::push(store, state.into(), ids, ends, bytes).into()
 }

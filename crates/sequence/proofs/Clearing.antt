@@ -53,7 +53,8 @@ only_next n (suc i) m (w ∷ ws) h e = ap (λ (x : List ℕ). lowest w n ∷ x) 
 -- the word of bit n keeps the bits below it, a later one none
 pub one_word_cleared : (n i m mask : ℕ) (v ws : List ℕ) → ws ≡ only n i v → n / 64 ≤ i → i < length v → m ≡ n - 64 * i → mask ≡ 2 ^ min 64 m - 1
     → set ws i (bit_and (get_or ws i 0) mask) ≡ only n (i + 1) v
-one_word_cleared n i m mask v ws p g h e k = rw (p, k, few, and_mask (get_or (only n i v) i 0) m, add-one i) (rw (lowest_some (get_or (only n i v) i 0) m (omega arith)) at (only_next n i m v h e))
+one_word_cleared n i m mask v ws p g h e k =
+    rw (p, k, few, and_mask (get_or (only n i v) i 0) m, add-one i) (rw (lowest_some (get_or (only n i v) i 0) m (omega arith)) at (only_next n i m v h e))
   where
     few : min 64 m ≡ m
     few = omega arith

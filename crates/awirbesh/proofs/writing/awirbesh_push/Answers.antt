@@ -5,5 +5,5 @@ use Rattle.awirbesh.proofs.writing.awirbesh_push.Goals as goal
 
 pub returns : goal.returns
 returns c =
-    let e = rw c.state_from.ensures at c.push.ensures in
-    record { value = c.pushed_numbers.ensures ∙ ap pushed_numbers e.result_value; store_after = e.store_after }
+    let e = rw c.into.ensures at c.push.ensures in
+    record { value = c.into-2.ensures ∙ ap pushed_numbers e.result_value; store_after = e.store_after }

@@ -3,11 +3,15 @@ use Rattle.std.proofs.Common.{arith}
 use Rattle.sequence.proofs.Notes.{apart, note_of_lem}
 use Rattle.sequence.proofs.IdSequence.note.Goals as goal
 
+pub overflow_add-id : goal.overflow_add-id
+overflow_add-id c = omega arith
+
 pub returns : goal.returns
 returns c =
     let t = c.truncate.ensures in
     let e =
     apart
-    (note_of_lem c.args.self c.args.words.now c.args.id (omega arith) (omega arith) (λ e. absurd (omega arith)) _ _ _ _ _ _ _ _ (omega arith) (omega arith) (omega arith)
+    (note_of_lem c.args.self c.args.words.now c.args.id (omega arith) (omega arith) (λ e. absurd (omega arith))
+    _ _ _ _ _ _ _ _ (omega arith) (omega arith) (omega arith)
     c.remaining.ensures c.forget.ensures c.mark.ensures (omega (arith, c.max.ensures)) t.start_and_words) in
     record { result_value = rw t.after_kept e.0; words_after = e.1 }

@@ -1,0 +1,7 @@
+-- `SteppedNumbers::new` meets its contract. Assumes nothing.
+use native.Mathlib.Omega.{arith}
+use Rattle.awirbesh.proofs.Numbers.{cursor_is}
+use Rattle.awirbesh.proofs.reading.SteppedNumbers.new.Goals as goal
+
+pub returns-in-Err : goal.returns-in-Err
+returns-in-Err c = rw (c.in-Err.is, c.number.ensures, c.value.ensures) (cursor_is _ _ _ _ _ _ _ (omega arith) (omega arith) (omega arith) (omega arith))

@@ -1,0 +1,7 @@
+-- `RaisedNumbers::new` meets its contract. Assumes nothing.
+use native.Mathlib.Omega.{arith}
+use Rattle.awirbesh.proofs.Numbers.{raise_state_is}
+use Rattle.awirbesh.proofs.state.RaisedNumbers.new.Goals as goal
+
+pub returns-in-Err : goal.returns-in-Err
+returns-in-Err c = rw (c.in-Err.is, c.number.ensures) (raise_state_is _ _ _ (omega arith) (omega arith) (omega arith) (omega arith))
