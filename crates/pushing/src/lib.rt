@@ -14,7 +14,7 @@ use refusal::Refusal;
 mod batch;
 
 // What a push answers: the refusal that ended it, if one did, the count of entries written, and the state.
-#[derive(Clone, Copy)]
+#[derive(Clone, Copy, Debug, PartialEq, Eq)]
 pub struct Pushed {
     pub reason: Option<Refusal>,
     pub written: u64,
