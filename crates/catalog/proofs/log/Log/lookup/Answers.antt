@@ -5,7 +5,6 @@ use Prim.Native.Nat.{ℕ, ◌+◌, ◌/◌, ◌%◌, ◌≤◌}
 use lib.Seq.{length-take-le}
 use Rattle.page.specs.Size.{page_size, id_size, pages_for_data, page_count}
 use Rattle.page.proofs.Counting.{pages_some}
-use Rattle.page.proofs.Parting.{copied_part}
 use Rattle.catalog.specs.Lookup.{found, find_of}
 use Rattle.catalog.proofs.Laws.Bounds.{is_log}
 use Rattle.catalog.proofs.Laws.Lookup.Positions.{found_whole}
@@ -30,7 +29,7 @@ within c s l n e = rw (e, (is_log _ _ c.in_ok-log.ensures).is) (data_within _ _ 
 pub invariant_of-copy_data : goal.invariant_of-copy_data
 invariant_of-copy_data c =
     let at = (goal.at.invariant_of-copy_data c).In-Found in
-    record { inside = omega (arith, within at (c.in-Found.position / page_size) (omega arith) c.in-Found.length refl, pages_some (id_size + c.in-Found.length)) }
+    record { inside = omega (arith, at_page at, within at (c.in-Found.position / page_size) (omega arith) c.in-Found.length refl, pages_some (id_size + c.in-Found.length)) }
 
 pub copy_data-requires : goal.copy_data-requires
 copy_data-requires c =
@@ -40,5 +39,4 @@ copy_data-requires c =
 pub returns-else-out-length : goal.returns-else-out-length
 returns-else-out-length c =
     let at = (goal.at.returns-else-out-length c).In-Found in
-    rw (c.copy_data.ensures, copied_part c.in_ok-log.log.now (c.in-Found.position / page_size) c.in-Found.length c.args.out.now (omega arith), (is_log _ _ c.in_ok-log.ensures).is)
-    (sym (found_copied _ _ _ _ _ _ (is_found at) _ (omega arith) (omega arith)))
+    rw (c.copy_data.ensures, (is_log _ _ c.in_ok-log.ensures).is) (sym (found_copied _ _ _ _ _ _ (is_found at) _ (omega arith) (omega arith)))
