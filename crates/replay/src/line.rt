@@ -1,57 +1,140 @@
 // A line of the list: eight numbers of sixteen hexadecimal digits, each followed by one byte.
+use catalog::{Look, State};
+use scanning::Range;
+use sequence::IdSequence;
+use std::ops::Bound;
+
+// What is called, with what the Rust answered.
 #[derive(Clone, Copy)]
-pub struct Line {
-    pub kind: u64,
-    pub a: u64,
-    pub b: u64,
-    pub c: u64,
-    pub d: u64,
-    pub e: u64,
-    pub f: u64,
+pub enum Line {
+    Fresh {
+        seed: u64,
+    },
+    Stage {
+        id: u64,
+        length: u64,
+    },
+    Push {
+        reason: u64,
+        written: u64,
+        length: u64,
+        last: u64,
+        sum: u64,
+    },
+    Next {
+        id: u64,
+    },
+    Idle,
+    Lookup {
+        id: u64,
+        look: Look,
+        sum: u64,
+    },
+    Scan {
+        range: Range,
+        count: u64,
+        sum: u64,
+    },
+    Recover {
+        excess: u64,
+        state: State,
+    },
+    Sequence {
+        start: u64,
+    },
+    Note {
+        id: u64,
+        complete: bool,
+        sequence: IdSequence,
+    },
+    Take {
+        next: u64,
+        id: u64,
+        after: u64,
+    },
 }
 
-fn wide(b: u8) -> u64 {
-    b as u64
+// The number in a column: the byte after its digits is no digit.
+fn number(column: &[u8]) -> u64 {
+    column
+        .iter()
+        .filter_map(|byte| char::from(*byte).to_digit(16))
+        .fold(0, |n, digit| (n << 4) | u64::from(digit))
 }
 
-// The value of a hexadecimal digit; 0 for what is none.
-fn digit(c: u8) -> u64 {
-    match c {
-        b'0'..=b'9' => wide(c - b'0'),
-        b'a'..=b'f' => wide(c - b'a' + 10),
-        _ => 0,
+fn numbers(line: &[u8; 136]) -> [u64; 8] {
+    let mut all = [0; 8];
+    for (n, column) in all.iter_mut().zip(line.chunks_exact(17)) {
+        *n = number(column);
+    }
+    all
+}
+
+// One end of a range.
+fn bound(kind: u64, id: u64) -> Bound<u64> {
+    match kind {
+        1 => Bound::Included(id),
+        2 => Bound::Excluded(id),
+        _ => Bound::Unbounded,
     }
 }
 
-// Four digits from a place on.
-fn four(line: &[u8; 136], at: usize) -> u64 {
-    if 132 < at {
-        return 0;
+// What a lookup found.
+fn look(found: u64, position: u64, length: u64) -> Look {
+    match found {
+        1 => Look::Found { position, length },
+        _ => Look::Absent { position },
     }
-    let high = (digit(line[at]) << 12) | (digit(line[at + 1]) << 8);
-    let low = (digit(line[at + 2]) << 4) | digit(line[at + 3]);
-    high | low
 }
 
-// The number in a column.
-fn column(line: &[u8; 136], i: usize) -> u64 {
-    if 7 < i {
-        return 0;
-    }
-    let at = i * 17;
-    let high = (four(line, at) << 48) | (four(line, at + 4) << 32);
-    let low = (four(line, at + 8) << 16) | four(line, at + 12);
-    high | low
-}
-
-pub fn read(line: &[u8; 136]) -> Line {
-    Line {
-        kind: column(line, 0),
-        a: column(line, 1),
-        b: column(line, 2),
-        c: column(line, 3),
-        d: column(line, 4),
-        e: column(line, 5),
-        f: column(line, 6),
+// None for a line of no kind. The kinds are numbers since the list is data.
+pub fn read(line: &[u8; 136]) -> Option<Line> {
+    let [kind, a, b, c, d, e, f, _] = numbers(line);
+    match kind {
+        0 => Some(Line::Fresh { seed: a }),
+        1 => Some(Line::Stage { id: a, length: b }),
+        2 => Some(Line::Push {
+            reason: a,
+            written: b,
+            length: c,
+            last: d,
+            sum: e,
+        }),
+        3 => Some(Line::Next { id: a }),
+        4 => Some(Line::Idle),
+        5 => Some(Line::Lookup {
+            id: a,
+            look: look(b, c, d),
+            sum: e,
+        }),
+        6 => Some(Line::Scan {
+            range: Range {
+                lower: bound(a, b),
+                upper: bound(c, d),
+            },
+            count: e,
+            sum: f,
+        }),
+        7 => Some(Line::Recover {
+            excess: a,
+            state: State {
+                length: b,
+                last: c,
+                next: d,
+                ceiling: d,
+            },
+        }),
+        8 => Some(Line::Sequence { start: a }),
+        9 => Some(Line::Note {
+            id: a,
+            complete: b == 1,
+            sequence: IdSequence { start: c, after: d },
+        }),
+        10 => Some(Line::Take {
+            next: a,
+            id: b,
+            after: c,
+        }),
+        _ => None,
     }
 }

@@ -5,38 +5,10 @@ mod line;
 mod play;
 mod sum;
 
-use play::World;
+use play::{Lent, World};
 use std::fs::File;
 use std::io;
 use std::io::{ErrorKind, Read};
-
-// One line: the arrays are lent, the numbers go in and come out.
-fn turn(
-    w: World,
-    bytes: &[u8; 136],
-    store: &mut [u8],
-    pattern: &mut [u8],
-    out: &mut [u8],
-    ids: &mut [u64],
-    ends: &mut [u64],
-    words: &mut [u64; 64],
-) -> World {
-    let l = line::read(bytes);
-    match l.kind {
-        0 => play::fresh(w, l, store, pattern),
-        1 => play::stage(w, l, ids, ends),
-        2 => play::push(w, l, store, ids, ends, pattern),
-        3 => play::next(w, l),
-        4 => play::idle(w, store),
-        5 => play::lookup(w, l, store, out),
-        6 => play::scan(w, l, store, out),
-        7 => play::recover(w, l, store),
-        8 => play::sequence(w, l, words),
-        9 => play::note(w, l, words),
-        10 => play::take(w, l),
-        _ => play::unknown(w),
-    }
-}
 
 // Whether another whole line was read.
 fn read_line(list: &mut impl Read, bytes: &mut [u8; 136]) -> io::Result<bool> {
@@ -47,37 +19,31 @@ fn read_line(list: &mut impl Read, bytes: &mut [u8; 136]) -> io::Result<bool> {
     }
 }
 
-fn replay(list: &mut impl Read) -> io::Result<World> {
-    let mut store = [0; 65536];
-    let mut pattern = [0; 65536];
-    let mut out = [0; 65536];
-    let mut ids = [0; 16];
-    let mut ends = [0; 16];
-    let mut words = [0; 64];
+fn replay(list: &mut impl Read, lent: &mut Lent) -> io::Result<World> {
     let mut bytes = [0; 136];
-    let mut w = play::begin();
+    let mut world = World::new();
     for _ in 0..1000000 {
         if !read_line(list, &mut bytes)? {
             break;
         }
-        w = turn(
-            w,
-            &bytes,
-            &mut store,
-            &mut pattern,
-            &mut out,
-            &mut ids,
-            &mut ends,
-            &mut words,
-        );
+        world.play(lent, line::read(&bytes));
     }
-    Ok(w)
+    Ok(world)
 }
 
 fn main(rt: HostRuntime) -> io::Result<()> {
     let mut list = File::open(&rt, "answers")?;
-    let w = replay(&mut list)?;
-    let compared = w.compared;
-    let wrong = w.wrong;
-    println!(rt; "{compared} answers of the Rust replayed, {wrong} differ")
+    let mut lent = Lent {
+        store: [0; 65536],
+        pattern: [0; 65536],
+        out: [0; 65536],
+        ids: [0; 16],
+        ends: [0; 16],
+        words: [0; 64],
+    };
+    let world = replay(&mut list, &mut lent)?;
+    println!(rt;
+        "{} answers of the Rust replayed, {} differ",
+        world.compared, world.wrong
+    )
 }

@@ -48,7 +48,7 @@ use Rattle.scanning.specs.Scan.{scan_of}
 use Rattle.scanning.specs.Step.{step_start, step_page, forward, forward_from, step_of}
 use Rattle.catalog.specs.declared.state.State.{State}
 use Rattle.scanning.specs.declared.Range.{Range}
-use Rattle.scanning.specs.declared.End.TheVariants.{Open}
+use Rattle.std.specs.declared.ops.Bound.TheVariants.{Unbounded}
 use Rattle.demands.specs.History.{World, world, log_of, Words, Call, push, take_id, raise, find, lookup, lend, cut_log}
 use Rattle.demands.specs.History.{another_store, answer, step, run, said, AllSpare, Begun, Settled, SettledByStored, LooksUp, Gives, Answers, KeepsFull, ReadsBack}
 use Rattle.page.proofs.Runs.{data_one_part}
@@ -165,7 +165,7 @@ pub three_looked_up : (out : List ℕ) → 1013 ≤ length out → RightLookup (
 three_looked_up out enough = lookup_right store begins.state 3 store_is_sound (lit≤ tt) (lit< tt) out (three_fits out enough)
 
 abbrev every : Range
-every = record { lower = Open; upper = Open }
+every = record { lower = Unbounded; upper = Unbounded }
 
 all_fit : Enough (log_of begins) every 1013
 unfolding pages_for page_at number_at bytes_of mark_at length_at filled first_page later_page later_pages entry_pages

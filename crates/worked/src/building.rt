@@ -1,39 +1,31 @@
 // What a script may do to a store: fill it, write an entry, change a byte; and whether long data is as written.
-use crate::parts::{number, part};
-use crate::say;
+use crate::line::Line;
 use page::Page;
 use std::io;
 
-// Makes every byte of a store this one.
-pub fn fill(store: &mut [u8], b: u8) {
-    store.fill(b);
+// Does to a store what a line says, if that is such a change.
+pub fn change(store: &mut [u8], line: Line<'_>) {
+    match line.word(0) {
+        "fill" => store.fill(line.byte(1)),
+        "put" => put(store, line, line.word(3).as_bytes()),
+        "mixed" => put_mixed(store, line),
+        "byte" => put_byte(store, line),
+        _ => {}
+    }
 }
 
-// Writes an entry from page p on, if its pages fit.
-fn put(store: &mut [u8], p: usize, id: u64, bytes: &[u8]) {
+// "put PAGE ID WORD": writes an entry with these bytes from a page on, if its pages fit.
+fn put(store: &mut [u8], line: Line<'_>, bytes: &[u8]) {
+    let p = line.size(1);
     let pages = Page::count(store);
-    if pages <= p {
-        return;
-    }
-    if Page::DATA_END <= bytes.len() {
+    if pages <= p || Page::DATA_END <= bytes.len() {
         return;
     }
     if pages - p < Page::pages_for_data(bytes.len()) {
         return;
     }
     let at = p * Page::SIZE;
-    page::write_entry(&mut store[at..], id, bytes);
-}
-
-// "put PAGE ID WORD": an entry whose data is a word.
-pub fn put_word(store: &mut [u8], line: &[u8]) {
-    let word = part(line, b' ', 3);
-    put(
-        store,
-        number(line, 1) as usize,
-        number(line, 2),
-        &line[word.from..word.end],
-    );
+    page::write_entry(&mut store[at..], line.number(2), bytes);
 }
 
 // Byte i of the long data of an id.
@@ -57,36 +49,27 @@ pub fn mix(bytes: &mut [u8], id: u64) {
 }
 
 // "mixed PAGE ID N": an entry with n bytes of its id's long data, at most 4,096.
-pub fn put_mixed(store: &mut [u8], line: &[u8]) {
+fn put_mixed(store: &mut [u8], line: Line<'_>) {
     let mut bytes = [0; 4096];
-    let id = number(line, 2);
-    mix(&mut bytes, id);
-    put_front(store, line, id, &bytes);
-}
-
-fn put_front(store: &mut [u8], line: &[u8], id: u64, bytes: &[u8]) {
-    let n = number(line, 3) as usize;
-    if n <= bytes.len() {
-        put(store, number(line, 1) as usize, id, &bytes[..n]);
+    mix(&mut bytes, line.number(2));
+    if let Some(data) = bytes.get(..line.size(3)) {
+        put(store, line, data);
     }
 }
 
 // "byte AT VALUE": one byte over another.
-pub fn put_byte(store: &mut [u8], line: &[u8]) {
-    let at = number(line, 1) as usize;
-    if at < store.len() {
-        store[at] = (number(line, 2) % 256) as u8;
+fn put_byte(store: &mut [u8], line: Line<'_>) {
+    if let Some(byte) = store.get_mut(line.size(1)) {
+        *byte = line.byte(2);
     }
 }
 
 // Says the first n bytes of an output, or of long ones only whether they are as written for the id.
 pub fn handed(rt: &impl Print, out: &[u8], n: usize, id: u64) -> io::Result<()> {
-    if out.len() < n {
-        return Ok(());
+    match out.get(..n) {
+        None => Ok(()),
+        Some(bytes) if n <= 16 => rt.write_all(bytes),
+        Some(bytes) if is_mixed(bytes, id, 0) => rt.print("as written"),
+        Some(_) => rt.print("not as written"),
     }
-    let bytes = &out[..n];
-    if n <= 16 {
-        return say::text(rt, bytes);
-    }
-    say::either(rt, b"as written|not as written", is_mixed(bytes, id, 0))
 }

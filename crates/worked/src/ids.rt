@@ -1,15 +1,16 @@
 // The id sequence: nebari's own tests, the window's edges, and ids noted twice.
 ghost use Rattle.std.specs.Prelude.{◌+◌, ◌<◌};
 
-use crate::parts::{letter, number};
-use crate::{say, script};
-use sequence::{IdSequence, Noted};
-use std::io;
+use crate::line::{Line, number};
+use crate::say::Told;
+use crate::script;
+use sequence::IdSequence;
+use std::{fmt, io};
 
 pub fn run(rt: &impl Print) -> io::Result<()> {
     script::run(
         rt,
-        b"grow 1 3 1 2 4
+        "grow 1 3 1 2 4
 down 0 66
 down 1 1024
 junk 5 4100
@@ -27,33 +28,23 @@ grow 1 3 3 1 2 3 1
 ",
     )?;
     by_blocks(rt)?;
-    say::text(rt, b"words all ones, ")?;
-    junk(rt, b"junk 1 3 1 2 1000")
+    rt.print("words all ones, ")?;
+    grow(rt, u64::MAX, Line("junk 1 3 1 2 1000"))
 }
 
-// "grow START IDS": a new sequence, and up to six ids noted one after the other.
-pub fn grow(rt: &impl Print, line: &[u8]) -> io::Result<()> {
-    let mut words = [0u64; 64];
-    sequence(rt, &mut words, line)
-}
-
-// "junk START IDS": the same where what the words held before is nobody's note.
-pub fn junk(rt: &impl Print, line: &[u8]) -> io::Result<()> {
-    let mut words = [18446744073709551615u64; 64];
-    sequence(rt, &mut words, line)
-}
-
-fn sequence(rt: &impl Print, words: &mut [u64; 64], line: &[u8]) -> io::Result<()> {
-    let s = begin(rt, number(line, 1))?;
-    end(rt, notes(rt, s, words, line)?)
+// "grow START IDS" and "junk START IDS": a new sequence, and ids noted one after the other. What the words held before is nobody's note.
+pub fn grow(rt: &impl Print, held: u64, line: Line<'_>) -> io::Result<()> {
+    let mut words = [held; 64];
+    let s = begin(rt, line.number(1))?;
+    end(rt, notes(rt, s, &mut words, line)?)
 }
 
 // "down FIRST COUNT": a new sequence, and the ids from first + count - 1 down to first.
-pub fn down(rt: &impl Print, line: &[u8]) -> io::Result<()> {
-    let mut words = [0u64; 64];
-    let first = number(line, 1);
-    let count = number(line, 2);
-    if count <= 18446744073709551615 - first {
+pub fn down(rt: &impl Print, line: Line<'_>) -> io::Result<()> {
+    let mut words = [0; 64];
+    let first = line.number(1);
+    let count = line.number(2);
+    if count <= u64::MAX - first {
         let s = begin(rt, first)?;
         end(rt, note_down(rt, s, &mut words, first, count)?)?;
     }
@@ -62,21 +53,20 @@ pub fn down(rt: &impl Print, line: &[u8]) -> io::Result<()> {
 
 // Start moves by the first 64 that remain, or by all if fewer: until then an id noted again is no refusal.
 fn by_blocks(rt: &impl Print) -> io::Result<()> {
-    let mut words = [0u64; 64];
+    let mut words = [0; 64];
     let fresh = begin(rt, 1)?;
-    let a = notes(rt, fresh, &mut words, b"grow 1 66 1 1")?;
+    let a = notes(rt, fresh, &mut words, Line("grow 1 66 1 1"))?;
     end(rt, a)?;
-    say::text(rt, b"that sequence")?;
+    rt.print("that sequence")?;
     let b = note_down(rt, a, &mut words, 2, 63)?;
     end(rt, b)?;
-    say::text(rt, b"that sequence")?;
+    rt.print("that sequence")?;
     end(rt, note(rt, b, &mut words, 65)?)
 }
 
 fn begin(rt: &impl Print, start: u64) -> io::Result<IdSequence> {
     let s = IdSequence::new(start);
-    say::one(rt, b"sequence from #", start)?;
-    complete(rt, s)?;
+    print!(rt; "sequence from {start}, {}", Told(s))?;
     Ok(s)
 }
 
@@ -85,31 +75,20 @@ fn notes(
     rt: &impl Print,
     s: IdSequence,
     words: &mut [u64; 64],
-    line: &[u8],
+    line: Line<'_>,
 ) -> io::Result<IdSequence> {
     let mut sequence = s;
-    for k in 2..8 {
-        if letter(line, k, 0) != 0 {
-            sequence = note(rt, sequence, words, number(line, k))?;
-        }
+    for id in line.words().skip(2) {
+        sequence = note(rt, sequence, words, number(id))?;
     }
     Ok(sequence)
 }
 
 // Says what noting an id gives; a refusal leaves the sequence.
 fn note(rt: &impl Print, s: IdSequence, words: &mut [u64; 64], id: u64) -> io::Result<IdSequence> {
-    say::one(rt, b"; note #", id)?;
-    match s.note(words, id) {
-        Noted::At(next) => {
-            complete(rt, next)?;
-            Ok(next)
-        }
-        Noted::Refused(r) => {
-            say::text(rt, b", ")?;
-            say::refusal(rt, r)?;
-            Ok(s)
-        }
-    }
+    let noted = s.note(words, id);
+    print!(rt; "; note {id}, {}", Told(noted))?;
+    Ok(noted.unwrap_or(s))
 }
 
 // A sequence, and how often each answer came on the way to it.
@@ -121,35 +100,43 @@ struct Tally {
     refused: u64,
 }
 
+impl fmt::Display for Tally {
+    fn fmt<W: fmt::Write>(&self, f: &mut fmt::Formatter<W>) -> fmt::Result {
+        write!(
+            f,
+            "no {}, yes {}, refused {}, {}",
+            self.no,
+            self.yes,
+            self.refused,
+            Told(self.sequence)
+        )
+    }
+}
+
 // Notes the ids from first + count - 1 down to first.
 fn tally_down(s: IdSequence, words: &mut [u64; 64], first: u64, count: u64) -> Tally
     requires { first + count < 18446744073709551616 }
 {
-    let mut sequence = s;
-    let mut no: u64 = 0;
-    let mut yes: u64 = 0;
-    let mut refused: u64 = 0;
+    let mut t = Tally {
+        sequence: s,
+        no: 0,
+        yes: 0,
+        refused: 0,
+    };
     for left in (0..count).rev() {
-        match sequence.note(words, first + left) {
-            Noted::At(next) => {
-                sequence = next;
+        match t.sequence.note(words, first + left) {
+            Ok(next) => {
+                t.sequence = next;
                 if next.complete() {
-                    yes += 1;
+                    t.yes += 1;
                 } else {
-                    no += 1;
+                    t.no += 1;
                 }
             }
-            Noted::Refused(_) => {
-                refused += 1;
-            }
+            Err(_) => t.refused += 1,
         }
     }
-    Tally {
-        sequence,
-        no,
-        yes,
-        refused,
-    }
+    t
 }
 
 // The same, told.
@@ -162,18 +149,11 @@ fn note_down(
 ) -> io::Result<IdSequence>
     requires { first + count < 18446744073709551616 }
 {
-    let t = tally_down(s, words, first, count);
-    say::two(rt, b"; note # ids down to #", count, first)?;
-    say::two(rt, b": no #, yes #", t.no, t.yes)?;
-    say::one(rt, b", refused #", t.refused)?;
-    complete(rt, t.sequence)?;
-    Ok(t.sequence)
-}
-
-fn complete(rt: &impl Print, s: IdSequence) -> io::Result<()> {
-    say::either(rt, b", complete yes|, complete no", s.complete())
+    let tally = tally_down(s, words, first, count);
+    print!(rt; "; note {count} ids down to {first}: {tally}")?;
+    Ok(tally.sequence)
 }
 
 fn end(rt: &impl Print, s: IdSequence) -> io::Result<()> {
-    say::one(rt, b"; start #\n", s.start)
+    println!(rt; "; start {}", s.start)
 }

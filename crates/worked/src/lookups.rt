@@ -1,14 +1,15 @@
 // Lookups in logs that are written entry by entry: the rules' cases, idle pages, far ids, long entries, damage and small outputs.
 use crate::building::handed;
-use crate::parts::number;
+use crate::line::Line;
+use crate::say::Told;
 use crate::{say, script};
-use catalog::{Look, State};
+use catalog::{Log, Look};
 use std::io;
 
 pub fn run(rt: &impl Print) -> io::Result<()> {
     script::run(
         rt,
-        b"put 0 1 one
+        "put 0 1 one
 put 1 2 two
 put 2 3 three
 put 3 4 four
@@ -62,7 +63,7 @@ ids 0 12
     // 4294967296 is 2^32, 9223372036854775808 is 2^63.
     script::run(
         rt,
-        b"put 0 1 1
+        "put 0 1 1
 put 1 4294967296 2^32
 put 2 9223372036854775808 2^63
 put 3 18446744073709551614 2^64-2
@@ -88,7 +89,7 @@ ids 9 18
 fn damage(rt: &impl Print) -> io::Result<()> {
     script::run(
         rt,
-        b"put 0 1 one
+        "put 0 1 one
 put 1 2 two
 put 2 3 three
 put 3 4 four
@@ -138,57 +139,38 @@ within 8
     )
 }
 
-// Says an answer in words.
-pub fn answer(rt: &impl Print, look: Look) -> io::Result<()> {
-    match look {
-        Look::Found { position, length } => {
-            say::two(rt, b"found at #, # bytes", position, length)
-        }
-        Look::Absent { position } => say::one(rt, b"absent at #", position),
-        Look::Refused(refusal) => say::refusal(rt, refusal),
-    }
-}
-
 // Looks up one id and says what that gave.
-fn one(rt: &impl Print, store: &[u8], state: State, id: u64) -> io::Result<()> {
+fn one(rt: &impl Print, log: Log<'_>, id: u64) -> io::Result<()> {
     let mut out = [0; 4096];
-    let look = catalog::lookup(store, state, id, &mut out);
-    say::one(rt, b"  #: ", id)?;
-    answer(rt, look)?;
-    if let Look::Found { length, .. } = look {
+    let look = log.lookup(id, &mut out);
+    print!(rt; "  {id}: {}", Told(look))?;
+    if let Ok(Look::Found { length, .. }) = look {
         if 0 < length {
-            say::text(rt, b": ")?;
+            rt.print(": ")?;
         }
         handed(rt, &out, length as usize, id)?;
     }
-    say::text(rt, b"\n")
+    rt.println("")
 }
 
-// Looks up every id from one to another.
-fn each(rt: &impl Print, store: &[u8], state: State, from: u64, to: u64) -> io::Result<()> {
-    for id in from..to {
-        one(rt, store, state, id)?;
-    }
-    one(rt, store, state, from.max(to))
-}
-
-// "ids FROM TO".
-pub fn ids(rt: &impl Print, store: &[u8], state: State, line: &[u8]) -> io::Result<()> {
-    each(rt, store, state, number(line, 1), number(line, 2))
-}
-
-// "within N": looks up 1 with an output of n dots, at most 8.
-pub fn within(rt: &impl Print, store: &[u8], state: State, line: &[u8]) -> io::Result<()> {
-    let mut dots = [b'.'; 8];
-    let n = number(line, 1) as usize;
-    if n <= 8 {
-        into(rt, store, state, &mut dots[..n])?;
+// "ids FROM TO": looks up every id from one to another.
+pub fn ids(rt: &impl Print, log: Log<'_>, line: Line<'_>) -> io::Result<()> {
+    for id in line.number(1)..=line.number(2) {
+        one(rt, log, id)?;
     }
     Ok(())
 }
 
-fn into(rt: &impl Print, store: &[u8], state: State, dots: &mut [u8]) -> io::Result<()> {
-    say::text(rt, b"  ")?;
-    answer(rt, catalog::lookup(store, state, 1, dots))?;
+// "within N": looks up 1 with an output of n dots, at most 8.
+pub fn within(rt: &impl Print, log: Log<'_>, line: Line<'_>) -> io::Result<()> {
+    let mut dots = [b'.'; 8];
+    match dots.get_mut(..line.size(1)) {
+        None => Ok(()),
+        Some(out) => into(rt, log, out),
+    }
+}
+
+fn into(rt: &impl Print, log: Log<'_>, dots: &mut [u8]) -> io::Result<()> {
+    print!(rt; "  {}", Told(log.lookup(1, dots)))?;
     say::dots(rt, dots)
 }

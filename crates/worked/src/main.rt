@@ -3,9 +3,9 @@
 
 mod building;
 mod ids;
+mod line;
 mod lookups;
 mod pages;
-mod parts;
 mod pushes;
 mod say;
 mod scans;

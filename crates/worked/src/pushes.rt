@@ -1,21 +1,17 @@
 // Pushes onto small stores: the rules' cases, every refusal of a batch, full stores, long payloads and a batch of 1,000 entries.
-ghost use Rattle.std.specs.Prelude.{◌≡◌, ◌<◌, ◌≤◌, length};
-
-use crate::building::is_mixed;
-use crate::lookups::answer;
-use crate::pages::show;
-use crate::parts::{is_all, letter, number, part};
-use crate::tails::say_recovered;
-use crate::{building, say, script};
-use catalog::{Look, State};
+use crate::building::{is_mixed, mix};
+use crate::line::Line;
+use crate::pages::{marked, show};
+use crate::say::Told;
+use crate::script;
+use catalog::{Log, Look, State};
 use page::Page;
-use pushing::{Pushed, Reason};
 use std::io;
 
 pub fn run(rt: &impl Print) -> io::Result<()> {
     script::run(
         rt,
-        b"name push (1, hello), (2, none) from the fresh state
+        "name push (1, hello), (2, none) from the fresh state
 entries 0 0 hello 1 2 - 5 5 -
 hex 0
 hex 1
@@ -133,29 +129,14 @@ check 4096 1023   cut at byte 1023
     thousand(rt)
 }
 
-// Says whether no byte from a place on was touched.
-fn rest(rt: &impl Print, store: &[u8], from: usize) -> io::Result<()> {
-    if from <= store.len() {
-        say::either(
-            rt,
-            b"  no byte after that is touched\n|  bytes after that are touched\n",
-            is_all(&store[from..], 0xff),
-        )?;
-    }
-    Ok(())
-}
-
-// Says what a push answered.
-fn outcome(rt: &impl Print, pushed: Pushed) -> io::Result<()> {
-    say::one(rt, b"# written, ", pushed.written)?;
-    why(rt, pushed.reason)?;
-    say::state(rt, b"; state #, #, #, #\n", pushed.state)
-}
-
-fn why(rt: &impl Print, reason: Reason) -> io::Result<()> {
-    match reason {
-        Reason::None => say::text(rt, b"no refusal"),
-        Reason::Refused(refusal) => say::refusal(rt, refusal),
+// "untouched": says whether no byte after the log was touched.
+pub fn untouched(rt: &impl Print, log: Log<'_>) -> io::Result<()> {
+    match log.store.get(log.state.length as usize..) {
+        None => Ok(()),
+        Some(rest) if rest.iter().all(|byte| *byte == 0xff) => rt.println(
+            "  no byte after that is touched",
+        ),
+        Some(_) => rt.println("  bytes after that are touched"),
     }
 }
 
@@ -169,72 +150,64 @@ fn further(
     bytes: &[u8],
 ) -> io::Result<State> {
     let pushed = pushing::push(store, state, ids, ends, bytes);
-    outcome(rt, pushed)?;
+    rt.println(Told(pushed))?;
     Ok(pushed.state)
 }
 
-// How many of the three words from k on are numbers: "-" is none.
-fn count(line: &[u8], k: usize) -> usize
-    requires { k < 8 }
-    ensures { result ≤ 3 }
-{
-    for j in 0..3 {
-        if letter(line, k + j, 0) == b'-' {
-            return j;
-        }
-    }
-    3
+// Of three numbers from word k on, those before the first "-".
+fn few<'a>(line: Line<'_>, k: usize, numbers: &'a [u64; 3]) -> &'a [u64] {
+    let n = line.words().skip(k).position(|word| word == "-");
+    numbers.get(..n.unwrap_or(3)).unwrap_or(numbers)
 }
 
-// The same for the batch of a line: words 4 to 6 are its ids, and 7 to 9 its ends.
+// The same with the batch of a line: words 4 to 6 are its ids, and 7 to 9 its ends.
 fn push_few(
     rt: &impl Print,
     store: &mut [u8],
     state: State,
-    line: &[u8],
+    line: Line<'_>,
     bytes: &[u8],
 ) -> io::Result<State> {
-    let ids = [number(line, 4), number(line, 5), number(line, 6)];
-    let ends = [number(line, 7), number(line, 8), number(line, 9)];
-    let i = count(line, 4);
-    let e = count(line, 7);
-    further(rt, store, state, &ids[..i], &ends[..e], bytes)
+    let ids = [line.number(4), line.number(5), line.number(6)];
+    let ends = [line.number(7), line.number(8), line.number(9)];
+    further(
+        rt,
+        store,
+        state,
+        few(line, 4, &ids),
+        few(line, 7, &ends),
+        bytes,
+    )
 }
 
 // "entries LENGTH LAST DATA IDS ENDS": pushes onto four pages that hold nothing yet, from a state.
-pub fn entries(rt: &impl Print, store: &mut [u8], line: &[u8]) -> io::Result<State> {
+pub fn entries(rt: &impl Print, store: &mut [u8], line: Line<'_>) -> io::Result<State> {
     let state = State {
-        length: number(line, 1),
-        last: number(line, 2),
-        next: 1,
-        ceiling: 1,
+        length: line.number(1),
+        last: line.number(2),
+        ..State::fresh()
     };
-    building::fill(store, 255);
-    words(rt, store, 4096, state, line)
+    store.fill(0xff);
+    onto(rt, store, 4096, state, line, line.word(3).as_bytes())
 }
 
-// "Word SIZE - DATA IDS ENDS": pushes onto what is there, with short data.
-pub fn word(rt: &impl Print, store: &mut [u8], state: State, line: &[u8]) -> io::Result<State> {
-    words(rt, store, number(line, 1) as usize, state, line)
-}
-
-// Pushes the data that is word 3 of a line.
-fn words(
-    rt: &impl Print,
-    store: &mut [u8],
-    size: usize,
-    state: State,
-    line: &[u8],
-) -> io::Result<State> {
-    let data = part(line, b' ', 3);
-    onto(rt, store, size, state, line, &line[data.from..data.end])
+// "short SIZE - DATA IDS ENDS": pushes onto what is there, with short data.
+pub fn short(rt: &impl Print, store: &mut [u8], state: State, line: Line<'_>) -> io::Result<State> {
+    onto(
+        rt,
+        store,
+        line.size(1),
+        state,
+        line,
+        line.word(3).as_bytes(),
+    )
 }
 
 // "long SIZE - - IDS ENDS": pushes onto what is there, with long data.
-pub fn long(rt: &impl Print, store: &mut [u8], state: State, line: &[u8]) -> io::Result<State> {
+pub fn long(rt: &impl Print, store: &mut [u8], state: State, line: Line<'_>) -> io::Result<State> {
     let mut bytes = [0; 4096];
-    building::mix(&mut bytes, 0);
-    onto(rt, store, number(line, 1) as usize, state, line, &bytes)
+    mix(&mut bytes, 0);
+    onto(rt, store, line.size(1), state, line, &bytes)
 }
 
 // Pushes onto a store's first bytes.
@@ -243,107 +216,64 @@ fn onto(
     store: &mut [u8],
     size: usize,
     state: State,
-    line: &[u8],
+    line: Line<'_>,
     bytes: &[u8],
 ) -> io::Result<State> {
-    if size <= store.len() {
-        return push_few(rt, &mut store[..size], state, line, bytes);
-    }
-    Ok(state)
-}
-
-pub fn ask(rt: &impl Print, store: &[u8], state: State, what: u8, line: &[u8]) -> io::Result<()> {
-    match what {
-        b'h' => hex(rt, store, number(line, 1) as usize),
-        b'u' => rest(rt, store, state.length as usize),
-        b'q' => query(rt, store, state, number(line, 1)),
-        b'v' => verify(rt, store, state, number(line, 1)),
-        b'y' => yields(rt, store, state),
-        _ => Ok(()),
+    match store.get_mut(..size) {
+        None => Ok(state),
+        Some(part) => push_few(rt, part, state, line, bytes),
     }
 }
 
 // "hex PAGE".
-fn hex(rt: &impl Print, store: &[u8], p: usize) -> io::Result<()> {
-    let pages = Page::count(store);
-    if p < pages {
-        let from = p * Page::SIZE;
-        let end = from + Page::SIZE;
-        say::one(rt, b"  page #: ", p as u64)?;
-        show(rt, &store[from..end])?;
+pub fn hex(rt: &impl Print, store: &[u8], line: Line<'_>) -> io::Result<()> {
+    let p = line.size(1);
+    match store.chunks_exact(Page::SIZE).nth(p) {
+        None => Ok(()),
+        Some(page) => told(rt, p, page),
     }
-    Ok(())
+}
+
+fn told(rt: &impl Print, p: usize, page: &[u8]) -> io::Result<()> {
+    print!(rt; "  page {p}: ")?;
+    show(rt, page)
 }
 
 // "query ID": where the id is, or would be.
-fn query(rt: &impl Print, store: &[u8], state: State, id: u64) -> io::Result<()> {
-    say::one(rt, b"  a lookup of #: ", id)?;
-    answer(rt, catalog::find(store, state, id))?;
-    say::text(rt, b"\n")
+pub fn query(rt: &impl Print, log: Log<'_>, line: Line<'_>) -> io::Result<()> {
+    let id = line.number(1);
+    println!(rt; "  a lookup of {id}: {}", Told(log.find(id)))
 }
 
 // "yields": what recovery says then.
-fn yields(rt: &impl Print, store: &[u8], state: State) -> io::Result<()> {
-    say::text(rt, b"  recovery then: ")?;
-    say_recovered(rt, catalog::recover(store, state.length, 0))
-}
-
-// An answer's bytes are so many of the long data from a place on.
-fn is_data(out: &[u8], length: u64, from: usize, n: usize) -> bool {
-    if length as usize != n {
-        return false;
-    }
-    if out.len() < n {
-        return false;
-    }
-    is_mixed(&out[..n], 0, from)
+pub fn yields(rt: &impl Print, log: Log<'_>) -> io::Result<()> {
+    let recovered = catalog::recover(log.store, log.state.length, 0);
+    println!(rt; "  recovery then: {}", Told(recovered))
 }
 
 // A lookup of the id hands over n bytes of the long data from a place on.
-fn reads_back(store: &[u8], state: State, id: u64, from: usize, n: usize) -> bool {
+fn reads_back(log: Log<'_>, id: u64, from: usize, n: usize) -> bool {
     let mut out = [0; 4096];
-    match catalog::lookup(store, state, id, &mut out) {
-        Look::Found { length, .. } => is_data(&out, length, from, n),
-        Look::Absent { .. } | Look::Refused(_) => false,
+    match log.lookup(id, &mut out) {
+        Ok(Look::Found { length, .. }) if length as usize == n => out
+            .get(..n)
+            .is_some_and(|bytes| is_mixed(bytes, 0, from)),
+        _ => false,
     }
 }
 
-// Each of the 1,000 entries reads back.
-fn thousand_back(store: &[u8], state: State) -> bool {
-    (0..1000).all(|j: usize| reads_back(store, state, j as u64 + 1, j, 1))
-}
-
 fn say_back(rt: &impl Print, back: bool) -> io::Result<()> {
-    say::either(
-        rt,
-        b"  the data reads back the same\n|  the data does not read back\n",
-        back,
-    )
-}
-
-// The state once its next id is taken, or the same if none is left.
-fn taken(state: State) -> State {
-    match state.take() {
-        catalog::Taken::Id { state: after, .. } => after,
-        catalog::Taken::Refused(_) => state,
+    if back {
+        rt.println("  the data reads back the same")
+    } else {
+        rt.println("  the data does not read back")
     }
 }
 
 // "verify N": id 1 has n bytes of the long data, once it is taken.
-fn verify(rt: &impl Print, store: &[u8], state: State, n: u64) -> io::Result<()> {
-    say_back(rt, reads_back(store, taken(state), 1, 0, n as usize))
-}
-
-fn numbers() -> [u64; 1000]
-    ensures { length result ≡ 1000 }
-{
-    [0; 1000]
-}
-
-fn large_store() -> [u8; 1048576]
-    ensures { length result ≡ 1048576 }
-{
-    [0xff; 1048576]
+pub fn verify(rt: &impl Print, log: Log<'_>, line: Line<'_>) -> io::Result<()> {
+    let state = log.state.take().map_or(log.state, |taken| taken.state);
+    say_back(rt, reads_back(Log { state, ..log }, 1, 0, line.size(1)))
 }
 
 // Fills a list with 1, 2, 3 and so on.
@@ -353,25 +283,31 @@ fn ascend(list: &mut [u64]) {
     }
 }
 
-// A batch of 1,000 entries with 1 byte each: entry j ends after j bytes.
-fn thousand(rt: &impl Print) -> io::Result<()> {
-    let mut store = large_store();
-    let mut ids = numbers();
-    let mut bytes = [0; 4096];
-    ascend(&mut ids);
-    building::mix(&mut bytes, 0);
-    push_thousand(rt, &mut store, &ids, &bytes)
+// Each of so many entries reads back.
+fn all_back(log: Log<'_>, ids: &[u64]) -> bool {
+    ids.iter()
+        .enumerate()
+        .all(|(j, id)| reads_back(log, *id, j, 1))
 }
 
-fn push_thousand(rt: &impl Print, store: &mut [u8], ids: &[u64], bytes: &[u8]) -> io::Result<()> {
-    say::text(rt, b"push 1 to 1000 with 1 byte each: ")?;
-    let state = further(rt, store, State::fresh(), ids, ids, bytes)?;
-    rest(rt, store, state.length as usize)?;
-    let all = State {
-        length: state.length,
-        last: state.last,
+// A batch of 1,000 entries with 1 byte each: entry j ends after j bytes.
+fn thousand(rt: &impl Print) -> io::Result<()> {
+    let mut store = marked::<1048576>();
+    let mut numbers = [0; 1000];
+    let mut bytes = [0; 4096];
+    ascend(&mut numbers);
+    mix(&mut bytes, 0);
+    push_all(rt, &mut store, &numbers, &bytes)
+}
+
+fn push_all(rt: &impl Print, store: &mut [u8], numbers: &[u64], bytes: &[u8]) -> io::Result<()> {
+    rt.print("push 1 to 1000 with 1 byte each: ")?;
+    let state = further(rt, store, State::fresh(), numbers, numbers, bytes)?;
+    untouched(rt, Log { store, state })?;
+    let state = State {
         next: 1001,
         ceiling: 1001,
+        ..state
     };
-    say_back(rt, thousand_back(store, all))
+    say_back(rt, all_back(Log { store, state }, numbers))
 }

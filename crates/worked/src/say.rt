@@ -1,97 +1,144 @@
-// Words and numbers on standard output.
-use crate::parts::part;
-use catalog::State;
+// How each kind of answer is told.
+use catalog::{Look, Recovered, State};
+use pushing::Pushed;
 use refusal::Refusal;
-use std::io;
+use sequence::IdSequence;
+use std::{fmt, io};
 
-pub fn text(rt: &impl Print, words: &[u8]) -> io::Result<()> {
-    rt.write_all(words)
-}
+// An answer in words.
+#[derive(Clone, Copy)]
+pub struct Told<T>(pub T);
 
-pub fn number(rt: &impl Print, n: u64) -> io::Result<()> {
-    rt.print(n)
-}
-
-// Part k of words that a byte separates.
-fn piece(rt: &impl Print, words: &[u8], separator: u8, k: usize) -> io::Result<()> {
-    let place = part(words, separator, k);
-    text(rt, &words[place.from..place.end])
-}
-
-// A script's line from word k on.
-pub fn told(rt: &impl Print, line: &[u8], k: usize) -> io::Result<()> {
-    let word = part(line, b' ', k);
-    text(rt, &line[word.from..])
-}
-
-// Wording k of several that '|' separates.
-pub fn wording(rt: &impl Print, words: &[u8], k: usize) -> io::Result<()> {
-    piece(rt, words, b'|', k)
-}
-
-// The first of two wordings if it holds, else the second.
-pub fn either(rt: &impl Print, words: &[u8], holds: bool) -> io::Result<()> {
-    if holds {
-        wording(rt, words, 0)
-    } else {
-        wording(rt, words, 1)
+impl fmt::Display for Told<State> {
+    fn fmt<W: fmt::Write>(&self, f: &mut fmt::Formatter<W>) -> fmt::Result {
+        let s = self.0;
+        write!(
+            f,
+            "state {}, {}, {}, {}",
+            s.length, s.last, s.next, s.ceiling
+        )
     }
 }
 
-// Words with a number in place of their '#'.
-pub fn one(rt: &impl Print, words: &[u8], n: u64) -> io::Result<()> {
-    piece(rt, words, b'#', 0)?;
-    number(rt, n)?;
-    piece(rt, words, b'#', 1)
-}
-
-// Words with two numbers in place of their '#'.
-pub fn two(rt: &impl Print, words: &[u8], a: u64, b: u64) -> io::Result<()> {
-    piece(rt, words, b'#', 0)?;
-    number(rt, a)?;
-    piece(rt, words, b'#', 1)?;
-    number(rt, b)?;
-    piece(rt, words, b'#', 2)
-}
-
-// Words with a state's numbers in place of their '#': length, last, next and ceiling.
-pub fn state(rt: &impl Print, words: &[u8], s: State) -> io::Result<()> {
-    two(rt, words, s.length, s.last)?;
-    number(rt, s.next)?;
-    piece(rt, words, b'#', 3)?;
-    number(rt, s.ceiling)?;
-    piece(rt, words, b'#', 4)
-}
-
-// Bytes in hexadecimal digits, with a space after each.
-pub fn bytes(rt: &impl Print, values: &[u8]) -> io::Result<()> {
-    for value in values {
-        print!(rt; "{value:02x} ")?;
+// The words before the page or the length that a refusal names, or none.
+fn naming(refusal: Refusal) -> &'static str {
+    match refusal {
+        Refusal::BadMark { .. }
+        | Refusal::ShortEntry { .. }
+        | Refusal::CutEntry { .. }
+        | Refusal::NoEntries { .. }
+        | Refusal::Overlap { .. }
+        | Refusal::NotAscending { .. } => " at page ",
+        Refusal::BufferSmall { .. } => ", needs ",
+        _ => "",
     }
-    Ok(())
 }
 
 // A refusal as the rules name it: its number, and the page or length.
-pub fn refusal(rt: &impl Print, r: Refusal) -> io::Result<()> {
-    let n = r.number();
-    one(rt, b"refusal #", n)?;
-    named(rt, n, r.value())
+impl fmt::Display for Told<Refusal> {
+    fn fmt<W: fmt::Write>(&self, f: &mut fmt::Formatter<W>) -> fmt::Result {
+        let words = naming(self.0);
+        write!(f, "refusal {}", self.0.number())?;
+        if words.is_empty() {
+            return Ok(());
+        }
+        write!(f, "{words}{}", self.0.value())
+    }
 }
 
-// The page or the length that the refusal of a number names.
-fn named(rt: &impl Print, n: u64, value: u64) -> io::Result<()> {
-    match n {
-        5 | 6 | 7 | 8 | 14 | 15 => one(rt, b" at page #", value),
-        10 => one(rt, b", needs #", value),
-        _ => Ok(()),
+impl fmt::Display for Told<Option<Refusal>> {
+    fn fmt<W: fmt::Write>(&self, f: &mut fmt::Formatter<W>) -> fmt::Result {
+        match self.0 {
+            None => f.write_str("no refusal"),
+            Some(refusal) => Told(refusal).fmt(f),
+        }
     }
+}
+
+impl<T: Copy> fmt::Display for Told<Result<T, Refusal>>
+where
+    Told<T>: fmt::Display,
+{
+    fn fmt<W: fmt::Write>(&self, f: &mut fmt::Formatter<W>) -> fmt::Result {
+        match self.0 {
+            Ok(value) => Told(value).fmt(f),
+            Err(refusal) => Told(refusal).fmt(f),
+        }
+    }
+}
+
+// What a sound check answers.
+impl fmt::Display for Told<()> {
+    fn fmt<W: fmt::Write>(&self, f: &mut fmt::Formatter<W>) -> fmt::Result {
+        f.write_str("sound")
+    }
+}
+
+// Where a scan begins.
+impl fmt::Display for Told<u64> {
+    fn fmt<W: fmt::Write>(&self, f: &mut fmt::Formatter<W>) -> fmt::Result {
+        write!(f, "at {}", self.0)
+    }
+}
+
+impl fmt::Display for Told<Look> {
+    fn fmt<W: fmt::Write>(&self, f: &mut fmt::Formatter<W>) -> fmt::Result {
+        match self.0 {
+            Look::Found { position, length } => write!(f, "found at {position}, {length} bytes"),
+            Look::Absent { position } => write!(f, "absent at {position}"),
+        }
+    }
+}
+
+impl fmt::Display for Told<Recovered> {
+    fn fmt<W: fmt::Write>(&self, f: &mut fmt::Formatter<W>) -> fmt::Result {
+        let it = self.0;
+        write!(
+            f,
+            "excess {}, dropped {}, {}",
+            it.excess,
+            it.dropped,
+            Told(it.state)
+        )
+    }
+}
+
+impl fmt::Display for Told<Pushed> {
+    fn fmt<W: fmt::Write>(&self, f: &mut fmt::Formatter<W>) -> fmt::Result {
+        let it = self.0;
+        write!(
+            f,
+            "{} written, {}; {}",
+            it.written,
+            Told(it.reason),
+            Told(it.state)
+        )
+    }
+}
+
+impl fmt::Display for Told<IdSequence> {
+    fn fmt<W: fmt::Write>(&self, f: &mut fmt::Formatter<W>) -> fmt::Result {
+        f.write_str(if self.0.complete() {
+            "complete yes"
+        } else {
+            "complete no"
+        })
+    }
+}
+
+// Bytes in hexadecimal digits, with a space after each.
+pub fn hex(rt: &impl Print, bytes: &[u8]) -> io::Result<()> {
+    for byte in bytes {
+        print!(rt; "{byte:02x} ")?;
+    }
+    Ok(())
 }
 
 // What an output that held dots holds now, if it is short, and the line's end.
 pub fn dots(rt: &impl Print, out: &[u8]) -> io::Result<()> {
     if out.len() <= 8 {
-        text(rt, b": ")?;
-        text(rt, out)?;
+        rt.print(": ")?;
+        rt.write_all(out)?;
     }
-    text(rt, b"\n")
+    rt.println("")
 }

@@ -1,16 +1,19 @@
 // Scans of one log with an idle page and an entry of three pages: every kind of range, outputs, damage and bad cursors.
 use crate::building::handed;
-use crate::parts::{letter, number};
+use crate::line::{Line, number};
+use crate::say::Told;
 use crate::{say, script};
-use catalog::State;
-use scanning::{End, Range, Started, Stepped};
+use catalog::Log;
+use refusal::Refusal;
+use scanning::{Range, Stepped};
 use std::io;
+use std::ops::Bound;
 
 // Ids 2, 4 on three pages, an idle page, 6 and 9: seven pages.
 pub fn run(rt: &impl Print) -> io::Result<()> {
     script::run(
         rt,
-        b"put 0 2 two
+        "put 0 2 two
 mixed 1 4 2992
 put 5 6 six
 put 6 9 nine
@@ -92,136 +95,140 @@ at 4096 - <=4
     )
 }
 
-// The end that word k says: "-" is open, and "=" makes it included.
-fn end_at(line: &[u8], k: usize) -> End {
-    if letter(line, k, 0) == b'-' {
-        return End::Open;
+// The end that a word says: "-" is open, and "=" makes it included.
+fn bound(word: &str) -> Bound<u64> {
+    let Some(end) = word.strip_prefix(['<', '>']) else {
+        return Bound::Unbounded;
+    };
+    match end.strip_prefix('=') {
+        Some(id) => Bound::Included(number(id)),
+        None => Bound::Excluded(number(end)),
     }
-    if letter(line, k, 1) == b'=' {
-        return End::Included(number(line, k));
-    }
-    End::Excluded(number(line, k))
 }
 
-// The range of words 2 and 3.
-fn range_at(line: &[u8]) -> Range {
-    let lower = end_at(line, 2);
-    let upper = end_at(line, 3);
-    Range { lower, upper }
+// The range between two ends in words.
+fn between(lower: &str, upper: &str) -> Range {
+    Range {
+        lower: bound(lower),
+        upper: bound(upper),
+    }
 }
 
-// Says an end in one of three wordings: open, included or excluded, the latter two before its id.
-fn end(rt: &impl Print, e: End, wordings: &[u8]) -> io::Result<()> {
-    match e {
-        End::Open => say::wording(rt, wordings, 0),
-        End::Included(id) => {
-            say::wording(rt, wordings, 1)?;
-            say::number(rt, id)
-        }
-        End::Excluded(id) => {
-            say::wording(rt, wordings, 2)?;
-            say::number(rt, id)
-        }
+// Says an end: one of three wordings, open, included or excluded, the latter two before its id.
+fn say_bound(
+    rt: &impl Print,
+    end: Bound<u64>,
+    open: &str,
+    included: &str,
+    excluded: &str,
+) -> io::Result<()> {
+    match end {
+        Bound::Unbounded => rt.print(open),
+        Bound::Included(id) => print!(rt; "{included}{id}"),
+        Bound::Excluded(id) => print!(rt; "{excluded}{id}"),
     }
+}
+
+// Says the entry that a step handed over to an output.
+fn entry(rt: &impl Print, id: u64, length: u64, out: &[u8]) -> io::Result<()> {
+    print!(rt; "{id} (")?;
+    if 16 < length {
+        print!(rt; "{length} bytes ")?;
+    }
+    handed(rt, out, length as usize, id)?;
+    rt.print(") then ")
 }
 
 // Says what a step answered; `out` is the output after it.
-fn answer(rt: &impl Print, stepped: Stepped, out: &[u8]) -> io::Result<()> {
+fn answer(rt: &impl Print, stepped: Result<Stepped, Refusal>, out: &[u8]) -> io::Result<()> {
     match stepped {
-        Stepped::Entry { id, length, cursor } => {
-            say::one(rt, b"# (", id)?;
-            if 16 < length {
-                say::one(rt, b"# bytes ", length)?;
-            }
-            handed(rt, out, length as usize, id)?;
-            say::one(rt, b") then #", cursor)
+        Ok(Stepped::Entry { id, length, cursor }) => {
+            entry(rt, id, length, out)?;
+            rt.print(cursor)
         }
-        Stepped::End { cursor } => say::one(rt, b"end at #", cursor),
-        Stepped::Refused(refusal) => say::refusal(rt, refusal),
+        Ok(Stepped::End { cursor }) => print!(rt; "end at {cursor}"),
+        Err(refusal) => rt.print(Told(refusal)),
     }
 }
 
-// Takes a step into an output and says what that gave.
+// Where the next step begins, if one may come.
+fn next(stepped: Result<Stepped, Refusal>) -> Option<u64> {
+    match stepped {
+        Ok(Stepped::Entry { cursor, .. }) => Some(cursor),
+        _ => None,
+    }
+}
+
+// Takes a step into an output, says what that gave, and hands on where the next begins.
 fn told(
     rt: &impl Print,
-    store: &[u8],
-    s: State,
-    r: Range,
+    log: Log<'_>,
+    range: Range,
     cursor: u64,
     out: &mut [u8],
-) -> io::Result<Stepped> {
-    let stepped = scanning::step(store, s, r, cursor, out);
+) -> io::Result<Option<u64>> {
+    let stepped = scanning::step(log, range, cursor, out);
     answer(rt, stepped, out)?;
-    Ok(stepped)
+    Ok(next(stepped))
 }
 
 // The same, with an output of 4,096 bytes.
-fn roomy(rt: &impl Print, store: &[u8], s: State, r: Range, cursor: u64) -> io::Result<Stepped> {
+fn roomy(rt: &impl Print, log: Log<'_>, range: Range, cursor: u64) -> io::Result<Option<u64>> {
     let mut out = [0; 4096];
-    told(rt, store, s, r, cursor, &mut out)
-}
-
-// The same, after another.
-fn then(rt: &impl Print, store: &[u8], s: State, r: Range, cursor: u64) -> io::Result<Stepped> {
-    say::text(rt, b"; ")?;
-    roomy(rt, store, s, r, cursor)
+    told(rt, log, range, cursor, &mut out)
 }
 
 // Takes steps from a cursor to the end, or to a refusal.
-fn steps(rt: &impl Print, store: &[u8], s: State, r: Range, from: u64) -> io::Result<()> {
+fn steps(rt: &impl Print, log: Log<'_>, range: Range, from: u64) -> io::Result<()> {
     let mut at = from;
     for _ in 0..9 {
-        match then(rt, store, s, r, at)? {
-            Stepped::Entry { cursor, .. } => at = cursor,
-            Stepped::End { .. } | Stepped::Refused(_) => return Ok(()),
-        }
+        rt.print("; ")?;
+        let Some(cursor) = roomy(rt, log, range, at)? else {
+            break;
+        };
+        at = cursor;
     }
     Ok(())
 }
 
 // "range LOWER UPPER": runs a whole scan and says what that gave.
-pub fn range(rt: &impl Print, store: &[u8], s: State, line: &[u8]) -> io::Result<()> {
-    let lower = end_at(line, 1);
-    let upper = end_at(line, 2);
-    end(rt, lower, b"  from the first|  from |  above ")?;
-    end(rt, upper, b" to the last| to | below ")?;
-    scan(rt, store, s, Range { lower, upper })
+pub fn range(rt: &impl Print, log: Log<'_>, line: Line<'_>) -> io::Result<()> {
+    let range = between(line.word(1), line.word(2));
+    say_bound(rt, range.lower, "  from the first", "  from ", "  above ")?;
+    say_bound(rt, range.upper, " to the last", " to ", " below ")?;
+    whole(rt, log, range)?;
+    rt.println("")
 }
 
-fn scan(rt: &impl Print, store: &[u8], s: State, r: Range) -> io::Result<()> {
-    match scanning::scan(store, s, r) {
-        Started::At { cursor } => {
-            say::one(rt, b": at #", cursor)?;
-            steps(rt, store, s, r, cursor)?;
-        }
-        Started::Refused(refusal) => {
-            say::text(rt, b": ")?;
-            say::refusal(rt, refusal)?;
-        }
+fn whole(rt: &impl Print, log: Log<'_>, range: Range) -> io::Result<()> {
+    let began = scanning::scan(log, range);
+    print!(rt; ": {}", Told(began))?;
+    match began {
+        Ok(cursor) => steps(rt, log, range, cursor),
+        Err(_) => Ok(()),
     }
-    say::text(rt, b"\n")
 }
 
 // "at CURSOR LOWER UPPER": takes one step from a cursor.
-pub fn at(rt: &impl Print, store: &[u8], s: State, line: &[u8]) -> io::Result<()> {
-    let cursor = number(line, 1);
-    say::one(rt, b"  from #: ", cursor)?;
-    roomy(rt, store, s, range_at(line), cursor)?;
-    say::text(rt, b"\n")
+pub fn at(rt: &impl Print, log: Log<'_>, line: Line<'_>) -> io::Result<()> {
+    let cursor = line.number(1);
+    print!(rt; "  from {cursor}: ")?;
+    roomy(rt, log, between(line.word(2), line.word(3)), cursor)?;
+    rt.println("")
 }
 
 // "out N LOWER UPPER CURSOR": takes a step into n dots, at most 4,096.
-pub fn out(rt: &impl Print, store: &[u8], s: State, line: &[u8]) -> io::Result<()> {
+pub fn out(rt: &impl Print, log: Log<'_>, line: Line<'_>) -> io::Result<()> {
     let mut dots = [b'.'; 4096];
-    let n = number(line, 1) as usize;
-    if n <= 4096 {
-        into(rt, store, s, line, &mut dots[..n])?;
+    match dots.get_mut(..line.size(1)) {
+        None => Ok(()),
+        Some(out) => into(rt, log, line, out),
     }
-    Ok(())
 }
 
-fn into(rt: &impl Print, store: &[u8], s: State, line: &[u8], dots: &mut [u8]) -> io::Result<()> {
-    say::text(rt, b"  ")?;
-    told(rt, store, s, range_at(line), number(line, 4), dots)?;
+fn into(rt: &impl Print, log: Log<'_>, line: Line<'_>, dots: &mut [u8]) -> io::Result<()> {
+    rt.print("  ")?;
+    let range = between(line.word(2), line.word(3));
+    told(rt, log, range, line.number(4), dots)?;
     say::dots(rt, dots)
 }

@@ -1,72 +1,74 @@
-// The state, ids taken and ceilings raised, and the sound check and recovery of good and bad logs. Both are lent the store by `&`, so that no byte of it changes.
-use crate::parts::number;
-use crate::{say, script};
-use catalog::{Checked, Raised, Recovered, State, Taken};
+// The state, ids taken and ceilings raised, and the sound check and recovery of good and bad logs.
+// Both are lent the store by `&`, so that no byte of it changes.
+use crate::line::Line;
+use crate::say::Told;
+use crate::script;
+use catalog::State;
 use refusal::Refusal;
 use std::io;
 
 // From "byte 0 1" on, ids 1, 2 and 3 on pages 0, 1 to 2, and 3.
 pub fn run(rt: &impl Print) -> io::Result<()> {
-    say::state(rt, b"fresh: state #, #, #, #\n", State::fresh())?;
+    println!(rt; "fresh: {}", Told(State::fresh()))?;
     script::run(
         rt,
-        b"name take from fresh
-Take
+        "name take from fresh
+take
 name the fresh state raised by 0
-Raise 0
+raise 0
 name raised by 2^32 + 1
-Raise 4294967297
+raise 4294967297
 name raised by 2
-Raise 2
+raise 2
 name take
-Take
+take
 name take
-Take
+take
 name take
-Take
+take
 name push (1, hello), and 2 is dropped
-Word 4096 - hello 1 - - 5 - -
+short 4096 - hello 1 - - 5 - -
 name recovered with the stored ceiling 3
-Open 3
+open 3
 query 2
 name raised by 1
-Raise 1
+raise 1
 name take
-Take
+take
 name recovered with the stored ceiling 0
-Open 0
+open 0
 name raised by 1
-Raise 1
+raise 1
 name take
-Take
+take
 name raised by 2^32
-Raise 4294967296
+raise 4294967296
 state 0 0 1 18446744073709551614
 name ceiling 2^64-2, raised by 1
-Raise 1
+raise 1
 state 0 0 1 18446744073709551614
 name ceiling 2^64-2, raised by 2
-Raise 2
+raise 2
 state 1024 7 18446744073709551614 18446744073709551615
 name take of 2^64-2 below the ceiling 2^64-1
-Take
+take
 name take of 2^64-1
-Take
+take
 state 1024 7 18446744073709551615 0
 name take of 2^64-1 above the ceiling 0
-Take
+take
 state 1024 7 9 8
 name take of 9 above the ceiling 8
-Take
+take
 state 0 0 7 9
 name no page, stored ceiling 0
-Open 0
+open 0
 name no page, stored ceiling 1
-Open 1
+open 1
 name no page, stored ceiling 2
-Open 2
+open 2
 name no page, stored ceiling 2^64-1
-Open 18446744073709551615
+open 18446744073709551615
 byte 0 1
 byte 3 8
 byte 11 1
@@ -182,83 +184,43 @@ check 4096 4096 id 2^64-1
     )
 }
 
-// Says a state, or a refusal that leaves another, and hands on which it is.
-fn told(rt: &impl Print, state: State) -> io::Result<State> {
-    say::state(rt, b"state #, #, #, #\n", state)?;
-    Ok(state)
+// Says a state, or a refusal that leaves the one before, and hands on which it is.
+fn moved(rt: &impl Print, to: Result<State, Refusal>, before: State) -> io::Result<State> {
+    rt.println(Told(to))?;
+    Ok(to.unwrap_or(before))
 }
 
-fn untold(rt: &impl Print, refusal: Refusal, state: State) -> io::Result<State> {
-    say::refusal(rt, refusal)?;
-    say::text(rt, b"\n")?;
-    Ok(state)
-}
-
-// "Take": takes an id, and hands on the state.
-pub fn taken(rt: &impl Print, state: State) -> io::Result<State> {
-    match state.take() {
-        Taken::Id { id, state: after } => {
-            say::one(rt, b"id #, ", id)?;
-            told(rt, after)
-        }
-        Taken::Refused(r) => untold(rt, r, state),
+// "take": takes an id, and hands on the state.
+pub fn take(rt: &impl Print, state: State) -> io::Result<State> {
+    let taken = state.take();
+    if let Ok(it) = taken {
+        print!(rt; "id {}, ", it.id)?;
     }
+    moved(rt, taken.map(|it| it.state), state)
 }
 
-// "Raise STEP": raises the ceiling, and hands on the state.
-pub fn raised(rt: &impl Print, state: State, line: &[u8]) -> io::Result<State> {
-    match state.raise(number(line, 1)) {
-        Raised::To { state: after } => told(rt, after),
-        Raised::Refused(r) => untold(rt, r, state),
-    }
+// "raise STEP": raises the ceiling, and hands on the state.
+pub fn raise(rt: &impl Print, state: State, line: Line<'_>) -> io::Result<State> {
+    moved(rt, state.raise(line.number(1)), state)
 }
 
-// "Open CEILING": recovers the log of the state's length with a stored ceiling, and hands on the state.
-pub fn opened(rt: &impl Print, store: &[u8], state: State, line: &[u8]) -> io::Result<State> {
-    match catalog::recover(store, state.length, number(line, 1)) {
-        Recovered::At { state: after, .. } => told(rt, after),
-        Recovered::Refused(r) => untold(rt, r, state),
-    }
-}
-
-fn say_checked(rt: &impl Print, checked: Checked) -> io::Result<()> {
-    match checked {
-        Checked::Sound => say::text(rt, b": check sound"),
-        Checked::Refused(r) => {
-            say::text(rt, b": check ")?;
-            say::refusal(rt, r)
-        }
-    }
-}
-
-pub fn say_recovered(rt: &impl Print, recovered: Recovered) -> io::Result<()> {
-    match recovered {
-        Recovered::At {
-            state,
-            excess,
-            dropped,
-        } => {
-            say::one(rt, b"excess #, ", excess)?;
-            say::one(rt, b"dropped #, ", dropped)?;
-            say::state(rt, b"state #, #, #, #", state)?;
-        }
-        Recovered::Refused(r) => say::refusal(rt, r)?,
-    }
-    say::text(rt, b"\n")
+// "open CEILING": recovers the log of the state's length with a stored ceiling, and hands on the state.
+pub fn open(rt: &impl Print, store: &[u8], state: State, line: Line<'_>) -> io::Result<State> {
+    let recovered = catalog::recover(store, state.length, line.number(1));
+    moved(rt, recovered.map(|it| it.state), state)
 }
 
 // "check SIZE LENGTH NAME": what the sound check, and recovery with the stored ceiling 0, say of a log in the store's first bytes.
-pub fn check(rt: &impl Print, store: &[u8], line: &[u8]) -> io::Result<()> {
-    let size = number(line, 1) as usize;
-    say::told(rt, line, 3)?;
-    if size <= store.len() {
-        check_both(rt, &store[..size], number(line, 2))?;
+pub fn check(rt: &impl Print, store: &[u8], line: Line<'_>) -> io::Result<()> {
+    rt.print(line.rest().rest().rest().0)?;
+    match store.get(..line.size(1)) {
+        None => Ok(()),
+        Some(part) => check_both(rt, part, line.number(2)),
     }
-    Ok(())
 }
 
 fn check_both(rt: &impl Print, store: &[u8], length: u64) -> io::Result<()> {
-    say_checked(rt, catalog::check(store, length))?;
-    say::text(rt, b"; recovery ")?;
-    say_recovered(rt, catalog::recover(store, length, 0))
+    let checked = catalog::check(store, length);
+    let recovered = catalog::recover(store, length, 0);
+    println!(rt; ": check {}; recovery {}", Told(checked), Told(recovered))
 }

@@ -5,7 +5,7 @@ use mathlib.Core.List.{List, ◌++◌}
 use native.Mathlib.Omega.{arith}
 use lib.ListN.{length, take, drop}
 use Rattle.page.specs.Size.{page_size, pages_for_data, page_count}
-use Rattle.page.specs.Data.{data_at}
+use Rattle.page.specs.Data.{data_at, copied}
 use Rattle.page.proofs.Parting.{copied_part}
 use Rattle.page.proofs.Starting.{after_data}
 use Rattle.catalog.specs.Output.{with_output}
@@ -30,10 +30,14 @@ module _ (store : List ℕ) (st : State) (id : ℕ) where
       unfolding lookup_of hand_found
       found_small l = rw f (hand_small refused (found position len) log (position / page_size) len out l)
 
-      -- s is the entry's page, and the data is put to a part of the output
-      pub found_copied : (s : ℕ) → s ≡ position / page_size → len ≤ length out → lookup_of store st id out ≡ with_output (found position len) (data_at log s (length (take len out)) ++ drop len out)
+      -- s is the entry's page
+      pub found_copied : (s : ℕ) → s ≡ position / page_size → len ≤ length out → lookup_of store st id out ≡ with_output (found position len) (copied log s len out)
       unfolding lookup_of hand_found
-      found_copied s p l = rw (f, p, copied_part log (position / page_size) len out l) (hand_copied refused (found position len) log (position / page_size) len out l)
+      found_copied s p l = rw (f, p) (hand_copied refused (found position len) log (position / page_size) len out l)
+
+      -- the data is put to a part of the output
+      pub found_put : (s : ℕ) → s ≡ position / page_size → len ≤ length out → lookup_of store st id out ≡ with_output (found position len) (data_at log s (length (take len out)) ++ drop len out)
+      found_put s p l = rw (copied_part log s len out l) (found_copied s p l)
 
     pub absent_nothing : (position : ℕ) → find_of store st id ≡ absent position → lookup_of store st id out ≡ with_output (absent position) out
     unfolding lookup_of hand_found

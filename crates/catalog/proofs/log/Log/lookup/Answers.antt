@@ -8,7 +8,7 @@ use Rattle.page.proofs.Counting.{pages_some}
 use Rattle.catalog.specs.Lookup.{found, find_of}
 use Rattle.catalog.proofs.Laws.Bounds.{is_log}
 use Rattle.catalog.proofs.Laws.Lookup.Positions.{found_whole}
-use Rattle.catalog.proofs.Laws.Lookup.Handing.{data_within, found_small, found_copied}
+use Rattle.catalog.proofs.Laws.Lookup.Handing.{data_within, found_small, found_put}
 use Rattle.catalog.proofs.log.Log.lookup.Goals as goal
 use Rattle.catalog.proofs.log.Log.lookup.Goals.{In-Found}
 
@@ -39,4 +39,4 @@ copy_data-requires c =
 pub returns-else-out-length : goal.returns-else-out-length
 returns-else-out-length c =
     let at = (goal.at.returns-else-out-length c).In-Found in
-    rw (c.copy_data.ensures, (is_log _ _ c.in_ok-log.ensures).is) (sym (found_copied _ _ _ _ _ _ (is_found at) _ (omega arith) (omega arith)))
+    rw (c.copy_data.ensures, (is_log _ _ c.in_ok-log.ensures).is) (sym (found_put _ _ _ _ _ _ (is_found at) _ (omega arith) (omega arith)))
