@@ -27,7 +27,7 @@ pub enum Line {
     Idle,
     Lookup {
         id: u64,
-        look: Look,
+        look: Option<Look>,
         sum: u64,
     },
     Scan {
@@ -54,12 +54,21 @@ pub enum Line {
     },
 }
 
-// The number in a column: the byte after its digits is no digit.
+// The value of a hexadecimal digit; 0 for what is none. Kept: `to_digit` takes capitals too.
+fn digit(byte: u8) -> u8 {
+    match byte {
+        b'0'..=b'9' => byte - b'0',
+        b'a'..=b'f' => byte - b'a' + 10,
+        _ => 0,
+    }
+}
+
+// The number in a column: sixteen digits, and a byte that is not read.
 fn number(column: &[u8]) -> u64 {
     column
         .iter()
-        .filter_map(|byte| char::from(*byte).to_digit(16))
-        .fold(0, |n, digit| (n << 4) | u64::from(digit))
+        .take(16)
+        .fold(0, |n, byte| (n << 4) | u64::from(digit(*byte)))
 }
 
 fn numbers(line: &[u8; 136]) -> [u64; 8] {
@@ -79,11 +88,12 @@ fn bound(kind: u64, id: u64) -> Bound<u64> {
     }
 }
 
-// What a lookup found.
-fn look(found: u64, position: u64, length: u64) -> Look {
+// What a lookup found, if the list says so.
+fn look(found: u64, position: u64, length: u64) -> Option<Look> {
     match found {
-        1 => Look::Found { position, length },
-        _ => Look::Absent { position },
+        0 => Some(Look::Absent { position }),
+        1 => Some(Look::Found { position, length }),
+        _ => None,
     }
 }
 

@@ -29,6 +29,9 @@ pub struct World {
     pub wrong: u64,
 }
 
+// The most bytes of an entry, and of the data before it.
+const MOST: u64 = 65536;
+
 // What a scan has handed over.
 #[derive(Clone, Copy, PartialEq, Eq)]
 struct Seen {
@@ -137,7 +140,10 @@ impl World {
         if lent.ids.len().min(lent.ends.len()) <= i {
             return Some(false);
         }
-        let end = self.end.saturating_add(length);
+        if MOST < length || MOST < self.end {
+            return Some(false);
+        }
+        let end = self.end + length;
         lent.ids[i] = id;
         lent.ends[i] = end;
         self.staged = i + 1;
@@ -177,16 +183,19 @@ impl World {
         None
     }
 
-    fn lookup(self, lent: &mut Lent, id: u64, look: Look, sum: u64) -> bool {
+    fn lookup(self, lent: &mut Lent, id: u64, look: Option<Look>, sum: u64) -> bool {
         let state = self.state;
         let log = Log {
             store: &lent.store,
             state,
         };
-        let right = log.lookup(id, &mut lent.out) == Ok(look);
-        match look {
-            Look::Found { length, .. } => right && sum::of_front(0, &lent.out, length) == sum,
-            Look::Absent { .. } => right,
+        let found = log.lookup(id, &mut lent.out).ok();
+        match found {
+            Some(Look::Found { length, .. }) => {
+                found == look && sum::of_front(0, &lent.out, length) == sum
+            }
+            Some(Look::Absent { .. }) => found == look,
+            None => false,
         }
     }
 
