@@ -34,6 +34,15 @@ filled_byte l i = elim (dec_lt i (length l)) [
       ∙ sym (get_or-eq_default l 0 {n = i} (omega arith))
 ]
 
+-- ---- a loop that clears a part: the first i bytes are zeros, and the rest is what it was
+
+pub record ClearLoop (part₀ part : List ℕ) (i : ℕ) : Type 0 where
+  pub long : length part ≡ length part₀
+  pub bytes : part ≡ replicate i 0 ++ drop i part₀
+
+pub clear_begins : (part : List ℕ) (i : ℕ) → i ≡ 0 → ClearLoop part part i
+clear_begins part i e = record { long = refl; bytes = rw e }
+
 -- ---- a page written: its head, as much of the data as it then holds, and zeros to the page's end
 
 module _ (s head d : List ℕ) (m : ℕ) (within : length head ≤ page_size) (room : page_size ≤ length s) (e : m ≡ min (length d) (page_size - length head)) where

@@ -1,4 +1,4 @@
--- The answers of taking an id and of raising the ceiling. Assumes nothing.
+-- A state by its four numbers, and the answers of taking an id and of raising the ceiling. Assumes nothing.
 use Prim.Native.Nat.{ℕ, ◌+◌, ◌^◌, ◌≤◌, ◌<◌}
 use mathlib.Core.Path.{◌≡◌}
 use mathlib.Core.Bool.{true, false, ◌||◌}
@@ -8,6 +8,10 @@ use Rattle.catalog.specs.State.{state_of, top_id, taken, refused, take_of}
 use Rattle.catalog.specs.Raise.{raised, refused as unraised, bad_step, raise_of}
 use Rattle.catalog.specs.declared.state.State.{State}
 use Rattle.catalog.proofs.Laws.Bounds.{neither}
+
+pub state_by : (n n' last last' next next' ceiling ceiling' : ℕ) → n ≡ n' → last ≡ last' → next ≡ next' → ceiling ≡ ceiling'
+    → state_of n last next ceiling ≡ state_of n' last' next' ceiling'
+state_by n n' last last' next next' ceiling ceiling' a b c d = rw (a, b, c, d)
 
 -- ---- taking an id
 
