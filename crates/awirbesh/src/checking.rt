@@ -1,4 +1,4 @@
-// A log as it is found: the sound check and recovery.
+// A log as it is found: the sound check and recovery. Refusals, kinds and flags are numbers here: the structs are C's.
 ghost use Rattle.std.specs.Prelude.{◌≡◌};
 ghost use Rattle.catalog.specs.Check.{check_of, paper_checked};
 ghost use Rattle.catalog.specs.Recovery.{recover_of, paper_recovered};

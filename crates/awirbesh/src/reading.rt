@@ -1,4 +1,4 @@
-// The lookup and the scan.
+// The lookup and the scan. Refusals, kinds and flags are numbers here: the structs are C's.
 ghost use Rattle.std.specs.Prelude.{◌≡◌};
 ghost use Rattle.catalog.specs.Lookup.{find_of, lookup_of, paper_look};
 ghost use Rattle.scanning.specs.Scan.{scan_of, paper_started};

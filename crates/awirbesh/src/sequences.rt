@@ -1,4 +1,4 @@
-// The id sequence, over 64 lent words that may hold anything.
+// The id sequence, over 64 lent words that may hold anything. Refusals, kinds and flags are numbers here: the structs are C's.
 ghost use Rattle.std.specs.Prelude.{◌≡◌};
 ghost use Rattle.sequence.specs.Sequence.{new_of, note_of, complete_of, paper_noted};
 ghost use Rattle.awirbesh.specs.Sequence.{sequence_from, sequence_numbers, noted_numbers, yes_number};

@@ -1,4 +1,4 @@
-// The state in numbers, taking an id and raising the ceiling.
+// The state in numbers, taking an id and raising the ceiling. Refusals, kinds and flags are numbers here: the structs are C's.
 ghost use Rattle.std.specs.Prelude.{◌≡◌};
 ghost use Rattle.catalog.specs.State.{fresh, take_of, paper_taken};
 ghost use Rattle.catalog.specs.Raise.{raise_of, paper_raised};
@@ -58,7 +58,7 @@ impl From<State> for StateNumbers {
 }
 
 impl TakenNumbers {
-    // A refusal leaves the state as it was given.
+    // A refusal leaves the state as it was given, so this takes two values and is no `From`.
     fn new(given: StateNumbers, taken: Result<Taken, Refusal>) -> Self
         ensures { result ≡ taken_numbers given (paper_taken taken) }
     {

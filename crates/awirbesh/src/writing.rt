@@ -1,4 +1,4 @@
-// The push of a batch.
+// The push of a batch. Refusals, kinds and flags are numbers here: the structs are C's.
 ghost use Rattle.std.specs.Prelude.{◌≡◌};
 ghost use Rattle.pushing.specs.Push.{push_of, paper_reason, paper_pushed};
 ghost use Rattle.awirbesh.specs.State.{state_from};
@@ -16,6 +16,7 @@ pub struct PushedNumbers {
     pub state: StateNumbers,
 }
 
+// Kept apart from its one use: a wrong program drops the reason there, and is refused at this number.
 fn reason_number(reason: Option<Refusal>) -> u64
     ensures { result ≡ reason_number (paper_reason reason) }
 {

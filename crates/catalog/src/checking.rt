@@ -62,7 +62,7 @@ fn check_page(page: Page<'_>, last: u64) -> Result<Passed, Refusal>
     }
 }
 
-// Every whole page, then the excess.
+// Every whole page, then the excess. A `while`: a page that passes tells where to go on.
 fn check_pages(log: &[u8]) -> Result<(), Refusal>
     ensures { paper_checked result ≡ check_log log.now }
 {
@@ -80,7 +80,7 @@ fn check_pages(log: &[u8]) -> Result<(), Refusal>
     Ok(())
 }
 
-// Whether the first `length` bytes of a store are a sound log.
+// Whether the first `length` bytes of a store are a sound log. The length stays apart: one above the store is refused.
 #[tactic(auto, unfolding(crate::specs::Check::check_of, crate::specs::Bounds::too_long))]
 pub fn check(store: &[u8], length: u64) -> Result<(), Refusal>
     ensures { paper_checked result ≡ check_of store.now length }

@@ -68,7 +68,7 @@ fn walk_back(log: &[u8], excess: u64) -> Result<Recovered, Refusal>
     })
 }
 
-// The state of the log in the first `length` bytes of a store, where this ceiling was stored.
+// The state of the log in the first `length` bytes of a store, where this ceiling was stored. The length stays apart: one above the store is refused.
 #[tactic(auto, unfolding(crate::specs::Recovery::recover_of, crate::specs::Bounds::too_long))]
 pub fn recover(store: &[u8], length: u64, stored: u64) -> Result<Recovered, Refusal>
     ensures { paper_recovered result ≡ recover_of store.now length stored }

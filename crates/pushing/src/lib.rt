@@ -54,7 +54,7 @@ fn write_in_turn(store: &mut [u8], state: State, id: u64, bytes: &[u8]) -> Resul
     Ok(state.moved((at + pages * Page::SIZE) as u64, id))
 }
 
-// Writes the entries of a batch, each in turn.
+// Writes the entries of a batch, each in turn. Store and state stay apart: each turn has a new state, and the store is lent by `&mut`, as C does.
 fn write_entries(store: &mut [u8], mut state: State, batch: Batch<'_>) -> Pushed
     requires { state.length ≤ length store.old }
     ensures result_value { paper_pushed result ≡ (entries_of batch.entry (point state store.old)).answer }

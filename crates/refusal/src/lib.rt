@@ -53,7 +53,7 @@ impl Refusal {
         }
     }
 
-    // The page or the length that the refusal names; 0 where it names none.
+    // The page or the length that the refusal names; 0 where it names none. Kept: `value_of` and C have a number there.
     pub fn value(self) -> u64
         ensures { result ≡ value_of self }
     {

@@ -183,12 +183,13 @@ impl World {
         None
     }
 
-    fn lookup(self, lent: &mut Lent, id: u64, look: Option<Look>, sum: u64) -> bool {
+    fn log(self, store: &[u8]) -> Log<'_> {
         let state = self.state;
-        let log = Log {
-            store: &lent.store,
-            state,
-        };
+        Log { store, state }
+    }
+
+    fn lookup(self, lent: &mut Lent, id: u64, look: Option<Look>, sum: u64) -> bool {
+        let log = self.log(&lent.store);
         let found = log.lookup(id, &mut lent.out).ok();
         match found {
             Some(Look::Found { length, .. }) => {
@@ -200,11 +201,7 @@ impl World {
     }
 
     fn scan(self, lent: &mut Lent, range: Range, seen: Seen) -> bool {
-        let state = self.state;
-        let log = Log {
-            store: &lent.store,
-            state,
-        };
+        let log = self.log(&lent.store);
         scanned(log, range, &mut lent.out) == Ok(seen)
     }
 

@@ -5,7 +5,7 @@ pub fn of_bytes(before: u64, bytes: &[u8]) -> u64 {
         .fold(before, |sum, byte| sum.rotate_left(5) ^ u64::from(*byte))
 }
 
-// The first n bytes, all if there are fewer.
+// The first n bytes, all if there are fewer: n is an answer's length, and may be more.
 pub fn of_front(before: u64, bytes: &[u8], n: u64) -> u64 {
     of_bytes(before, bytes.get(..n as usize).unwrap_or(bytes))
 }

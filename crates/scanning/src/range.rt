@@ -21,7 +21,7 @@ impl Range {
     }
 }
 
-// The id is on the inner side of the lower end.
+// The id is on the inner side of the lower end. Kept beside its twin: the rule has a definition for each end, and a wrong program changes one arm of one.
 fn is_above(lower: Bound<u64>, id: u64) -> bool
     ensures { result ≡ above_lower lower id }
 {

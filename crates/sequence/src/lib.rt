@@ -61,7 +61,7 @@ impl IdSequence {
         self.after.saturating_sub(self.start)
     }
 
-    // As long as any remain, start moves past the first 64, or however many there are, if each is noted.
+    // As long as any remain, start moves past the first 64, or however many there are, if each is noted. A `while`: it ends where a word has an id that is not.
     #[tactic(auto, using(crate::proofs::Rounds::rounds_last))]
     fn truncate(self, words: &mut [u64; 64]) -> IdSequence
         ensures start_and_words { truncated result.start words.new ≡ truncate_of self.after self.start words.old }

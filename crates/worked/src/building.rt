@@ -3,7 +3,7 @@ use crate::line::Line;
 use page::Page;
 use std::io;
 
-// Does to a store what a line says, if that is such a change.
+// Does to a store what a line says, if that is such a change: one arm for each word of a script.
 pub fn change(store: &mut [u8], line: Line<'_>) {
     match line.word(0) {
         "fill" => store.fill(line.byte(1)),
@@ -64,7 +64,7 @@ fn put_byte(store: &mut [u8], line: Line<'_>) {
     }
 }
 
-// Says the first n bytes of an output, or of long ones only whether they are as written for the id.
+// Says the first bytes of an output, as many as an answer says, or of long ones only whether they are as written for the id.
 pub fn handed(rt: &impl Print, out: &[u8], n: usize, id: u64) -> io::Result<()> {
     match out.get(..n) {
         None => Ok(()),

@@ -47,6 +47,7 @@ fn stated(line: Line<'_>) -> State {
     }
 }
 
+// Asks something of the log: one arm for each word of a script.
 fn ask(rt: &impl Print, log: Log<'_>, line: Line<'_>) -> io::Result<()> {
     match line.word(0) {
         "title" => rt.println(line.rest().0),

@@ -1,4 +1,5 @@
 -- `awirbesh_push` meets its contract. Assumes nothing.
+-- The check finds this alone: it stands so that a wrong program is refused at the fact that is false.
 use mathlib.Core.Path.{ap, ◌∙◌}
 use Rattle.awirbesh.specs.Push.{pushed_numbers}
 use Rattle.awirbesh.proofs.writing.awirbesh_push.Goals as goal

@@ -1,4 +1,5 @@
 -- `check` meets its contract: what is checked is the first bytes of the store. Assumes nothing.
+-- The check finds this alone: it stands so that a wrong program is refused at the fact that is false.
 use mathlib.Core.Path.{sym, ◌∙◌}
 use native.Mathlib.Omega.{arith}
 use Rattle.catalog.proofs.Laws.Check.Steps.{check_part}

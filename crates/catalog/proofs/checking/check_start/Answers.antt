@@ -13,5 +13,6 @@ starts c = the_whole _ _ c.in_ok-whole.ensures
 pub later_marks-requires : goal.later_marks-requires
 later_marks-requires c = let w = is_whole (starts (goal.at.later_marks-requires c).In_ok-whole) in (omega (arith, past_start w), w.within)
 
+-- The check finds this alone: it stands so that a wrong program is refused at the fact that is false.
 pub returns : goal.returns
 returns c = c.later_marks.ensures ∙ start_later _ _ _ _ _ _ _ (starts (goal.at.returns c).In_ok-whole) (omega arith)

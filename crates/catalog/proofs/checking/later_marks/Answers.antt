@@ -6,6 +6,7 @@ use Rattle.page.proofs.Marking.{is_start, is_later}
 use Rattle.catalog.proofs.Laws.Check.Steps.{later_from, later_end, later_start, later_fault, later_on}
 use Rattle.catalog.proofs.checking.later_marks.Goals as goal
 
+-- The check finds this alone: it stands so that a wrong program is refused at the fact that is false.
 pub loop-p-init : goal.loop-p-init
 loop-p-init c = later_from _ _ _ _ _ (omega arith)
 

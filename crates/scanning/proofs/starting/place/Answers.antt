@@ -1,4 +1,5 @@
 -- `place` meets its contract where the id is absent. Assumes nothing.
+-- The check finds this alone: it stands so that a wrong program is refused at the fact that is false.
 use native.Mathlib.Omega.{arith}
 use Rattle.scanning.proofs.Laws.Start.{place_absent}
 use Rattle.scanning.proofs.starting.place.Goals as goal

@@ -3,6 +3,7 @@ use Rattle.std.proofs.Common.{arith}
 use Rattle.sequence.proofs.Notes.{apart, note_of_lem}
 use Rattle.sequence.proofs.IdSequence.note.Goals as goal
 
+-- The check finds this alone: it stands so that a wrong program is refused at the fact that is false.
 pub overflow_add-id : goal.overflow_add-id
 overflow_add-id c = omega arith
 

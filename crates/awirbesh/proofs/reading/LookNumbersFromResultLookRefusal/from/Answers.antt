@@ -1,4 +1,5 @@
 -- `LookNumbers::from` meets its contract. Assumes nothing.
+-- The check finds this alone: it stands so that a wrong program is refused at the fact that is false.
 use mathlib.Core.Path.{◌≡◌}
 use native.Mathlib.Omega.{arith}
 use Rattle.catalog.specs.declared.searching.Look.TheVariants.{Found}

@@ -1,4 +1,5 @@
 -- `SteppedNumbers::new` meets its contract. Assumes nothing.
+-- The check finds this alone: it stands so that a wrong program is refused at the fact that is false.
 use native.Mathlib.Omega.{arith}
 use Rattle.awirbesh.proofs.Numbers.{cursor_is}
 use Rattle.awirbesh.proofs.reading.SteppedNumbers.new.Goals as goal

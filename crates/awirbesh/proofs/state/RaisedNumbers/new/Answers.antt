@@ -1,4 +1,5 @@
 -- `RaisedNumbers::new` meets its contract. Assumes nothing.
+-- The check finds this alone: it stands so that a wrong program is refused at the fact that is false.
 use native.Mathlib.Omega.{arith}
 use Rattle.awirbesh.proofs.Numbers.{raise_state_is}
 use Rattle.awirbesh.proofs.state.RaisedNumbers.new.Goals as goal

@@ -1,4 +1,5 @@
 -- `TakenNumbers::new` meets its contract. Assumes nothing.
+-- The check finds this alone: it stands so that a wrong program is refused at the fact that is false.
 use native.Mathlib.Omega.{arith}
 use Rattle.awirbesh.proofs.Numbers.{state_is}
 use Rattle.awirbesh.proofs.state.TakenNumbers.new.Goals as goal

@@ -1,4 +1,5 @@
 -- `PushedNumbers::from` meets its contract. Assumes nothing.
+-- The check finds this alone: it stands so that a wrong program is refused at the fact that is false.
 use native.Mathlib.Omega.{arith}
 use Rattle.awirbesh.proofs.Numbers.{reason_is}
 use Rattle.awirbesh.proofs.writing.PushedNumbersFromPushed.from.Goals as goal

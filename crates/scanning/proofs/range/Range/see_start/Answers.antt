@@ -1,4 +1,5 @@
 -- `see_start` meets its contract where it goes on. Assumes nothing.
+-- The check finds this alone: it stands so that a wrong program is refused at the fact that is false.
 use mathlib.Core.Path.{refl, sym}
 use Rattle.page.proofs.Starting.{the_whole}
 use Rattle.scanning.proofs.Laws.Forward.{step_out}
