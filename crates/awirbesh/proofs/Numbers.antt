@@ -3,17 +3,12 @@ use Prim.Native.Nat.{ℕ}
 use mathlib.Core.Path.{◌≡◌}
 use Rattle.catalog.specs.Lookup.{found}
 use Rattle.scanning.specs.Step.{refused as unstepped}
-use Rattle.pushing.specs.Push.{paper_reason, paper_pushed}
-use Rattle.pushing.specs.declared.Pushed.{Pushed}
-use Rattle.awirbesh.specs.State.{state_numbers}
 use Rattle.awirbesh.specs.Read.{look_numbers, stepped_numbers}
-use Rattle.awirbesh.specs.Push.{reason_number, pushed_numbers}
 use Rattle.awirbesh.specs.declared.state.StateNumbers.{StateNumbers}
 use Rattle.awirbesh.specs.declared.state.TakenNumbers.{TakenNumbers}
 use Rattle.awirbesh.specs.declared.state.RaisedNumbers.{RaisedNumbers}
 use Rattle.awirbesh.specs.declared.reading.LookNumbers.{LookNumbers}
 use Rattle.awirbesh.specs.declared.reading.SteppedNumbers.{SteppedNumbers}
-use Rattle.awirbesh.specs.declared.writing.PushedNumbers.{PushedNumbers}
 
 -- found is 1 for what was found
 abbrev looked : ℕ → ℕ → ℕ → ℕ → ℕ → LookNumbers
@@ -55,11 +50,3 @@ module _ (given st : StateNumbers) (number : ℕ)
 
   pub raise_state_is : raise_refused number st ≡ raise_refused number given
   raise_state_is = rw same
-
--- a push has the number of its reason
-abbrev pushed_by : ℕ → ℕ → StateNumbers → PushedNumbers
-pushed_by number written st = record { number = number; written = written; state = st }
-
-pub reason_is : (pushed : Pushed) (number : ℕ) → number ≡ reason_number (paper_reason pushed.reason)
-    → pushed_by number pushed.written (state_numbers pushed.state) ≡ pushed_numbers (paper_pushed pushed)
-reason_is pushed number e = rw e

@@ -1,5 +1,6 @@
 // The functions that C and Rust call: each is a call of the library, with the numbers of its answer.
-// include/awirbesh.h documents them.
+// include/awirbesh.h documents them. Five of its structs begin with a number and a value, and each says both: C has no common part of
+// structs. Only C reads them, so they are neither printed nor compared.
 #![tactic(auto)]
 
 mod checking;

@@ -124,7 +124,7 @@ impl From<Result<u64, Refusal>> for StartedNumbers {
 }
 
 impl SteppedNumbers {
-    // A refusal leaves the cursor as it was given.
+    // A refusal leaves the cursor as it was given, so this takes two values and is no `From`.
     fn new(given: u64, stepped: Result<Stepped, Refusal>) -> Self
         ensures { result ≡ stepped_numbers given (paper_stepped stepped) }
     {

@@ -43,7 +43,7 @@ impl From<IdSequence> for SequenceNumbers {
 }
 
 impl NotedNumbers {
-    // A refusal leaves the sequence as it was given.
+    // A refusal leaves the sequence as it was given, so this takes two values and is no `From`.
     fn new(given: SequenceNumbers, noted: Result<IdSequence, Refusal>) -> Self
         ensures { result ≡ noted_numbers given (paper_noted noted) }
     {

@@ -78,7 +78,7 @@ impl TakenNumbers {
 }
 
 impl RaisedNumbers {
-    // A refusal leaves the state as it was before.
+    // A refusal leaves the state as it was before, so this takes two values and is no `From`.
     fn new(before: StateNumbers, raised: Result<State, Refusal>) -> Self
         ensures { result ≡ raised_numbers before (paper_raised raised) }
     {

@@ -16,19 +16,12 @@ pub struct PushedNumbers {
     pub state: StateNumbers,
 }
 
-// Kept apart from its one use: a wrong program drops the reason there, and is refused at this number.
-fn reason_number(reason: Option<Refusal>) -> u64
-    ensures { result ≡ reason_number (paper_reason reason) }
-{
-    reason.map_or(0, Refusal::number)
-}
-
 impl From<Pushed> for PushedNumbers {
     ghost from_gives = { λ pushed n. n ≡ pushed_numbers (paper_pushed pushed) };
 
     fn from(pushed: Pushed) -> Self {
         Self {
-            number: reason_number(pushed.reason),
+            number: pushed.reason.map_or(0, Refusal::number),
             written: pushed.written,
             state: pushed.state.into(),
         }

@@ -40,6 +40,7 @@ pub record ClearLoop (part₀ part : List ℕ) (i : ℕ) : Type 0 where
   pub long : length part ≡ length part₀
   pub bytes : part ≡ replicate i 0 ++ drop i part₀
 
+-- kept: docs/PROVING.md names it
 pub clear_begins : (part : List ℕ) (i : ℕ) → i ≡ 0 → ClearLoop part part i
 clear_begins part i e = record { long = refl; bytes = rw e }
 

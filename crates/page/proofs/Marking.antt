@@ -85,12 +85,6 @@ module _ (p m : ℕ) where
       cc (s, b)
 
   module _ {A : Type 0} (start later : A) where
-    pub read_by_start : (bad : A) → Ok Start ≡ mark_of p m → by_mark m start later bad ≡ start
-    read_by_start bad e = by_start m start later bad (is_start e)
-
-    pub read_by_later : (bad : A) → Ok Later ≡ mark_of p m → by_mark m start later bad ≡ later
-    read_by_later bad e = by_later m start later bad (is_later e)
-
     -- where the answer is passed on by `?`: f is what becomes of a refusal
     pub read_by_bad : (f : Refusal → A) {e : Refusal} → Err e ≡ mark_of p m → by_mark m start later (f (BadMark p)) ≡ f e
     read_by_bad f s = by_bad m start later _ (is_bad s) ∙ ap f (sym (names_mark s))

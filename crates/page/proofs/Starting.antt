@@ -59,13 +59,6 @@ the_whole s short h = absurd (let z : ◌≡◌ {A = ℕ} 0 1 = cc in omega arit
 the_whole s (cut id) h = absurd (let z : ◌≡◌ {A = ℕ} 0 1 = cc in omega arith)
 the_whole s (whole id len after) h = cc
 
--- where it is passed on by `?`: f is what becomes of a refusal, and g what the rules answer for what starts there
-pub not_whole : {A : Type 0} (s : ℕ) (st : Starting) (f : Refusal → A) (g : Starting → A) {e : Refusal} → Err e ≡ whole_of s st
-    → g short ≡ f (ShortEntry s) → ((id : ℕ) → g (cut id) ≡ f (CutEntry s)) → g st ≡ f e
-not_whole s short f g h a b = a ∙ ap f cc
-not_whole s (cut id) f g h a b = b id ∙ ap f cc
-not_whole s (whole id len after) f g h a b = absurd (let z : ◌≡◌ {A = ℕ} 0 1 = cc in omega arith)
-
 -- ---- a whole entry
 
 pub record IsWhole (log : List ℕ) (s id len after : ℕ) : Type 0 where

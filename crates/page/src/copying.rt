@@ -11,6 +11,7 @@ fn copy_from(part: &[u8], out: &mut [u8])
     requires { pages_for_data (length out.old) * page_size ≤ data_start + length part.now }
     ensures { out.new ≡ data_from part.now (length out.old) }
 {
+    // counted by hand: the first run is shorter than the others and a mark stands between two, which chunks of pages would say twice
     let mut at = 0;
     for byte in out {
         // a page begins here: its mark is no data

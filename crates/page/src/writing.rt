@@ -36,6 +36,7 @@ fn write_rest(part: &mut [u8], bytes: &[u8])
     requires { started later_payload (length bytes.now) * page_size ≤ length part.old }
     ensures { part.new ≡ overwritten part.old (later_pages (started later_payload (length bytes.now)) bytes.now) }
 {
+    // Kept: an index, since a proof does not know what was written through `chunks_mut`.
     for j in 0..bytes.len().div_ceil(Page::LATER_PAYLOAD) {
         let at = j * Page::SIZE;
         let from = j * Page::LATER_PAYLOAD;

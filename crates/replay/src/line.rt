@@ -15,6 +15,7 @@ pub enum Line {
         length: u64,
     },
     Push {
+        // the refusal's number, 0 for none: the list has no more
         reason: u64,
         written: u64,
         length: u64,
@@ -79,7 +80,7 @@ fn numbers(line: &[u8; 136]) -> [u64; 8] {
     all
 }
 
-// One end of a range.
+// One end of a range. Kept: the list has numbers for it, since it is data.
 fn bound(kind: u64, id: u64) -> Bound<u64> {
     match kind {
         1 => Bound::Included(id),

@@ -7,7 +7,8 @@ use refusal::Refusal;
 use scanning::{Range, Stepped};
 use sequence::IdSequence;
 
-// The arrays that the calls are lent. They are owned: one `&mut` field behind a reference is not read while another is lent.
+// The arrays that the calls are lent: ids and ends are two, as a push takes them, and each is fixed, with no heap. Apart from the world,
+// which is a plain value, and owned: behind a reference, a field that is itself a `&mut` cannot be read while another is lent.
 #[derive(Drop)]
 pub struct Lent {
     pub store: [u8; 65536],
@@ -94,7 +95,10 @@ impl World {
     // Whether the answer is the Rust's, if the line has one.
     fn turn(&mut self, lent: &mut Lent, line: Line) -> Option<bool> {
         match line {
-            Line::Fresh { seed } => self.fresh(lent, seed),
+            Line::Fresh { seed } => {
+                self.fresh(lent, seed);
+                None
+            }
             Line::Stage { id, length } => self.stage(lent, id, length),
             Line::Push {
                 reason,
@@ -110,12 +114,18 @@ impl World {
                 };
                 Some(self.push(lent, reason, written, state, sum))
             }
-            Line::Next { id } => self.next(id),
+            Line::Next { id } => {
+                self.next(id);
+                None
+            }
             Line::Idle => self.idle(lent),
             Line::Lookup { id, look, sum } => Some(self.lookup(lent, id, look, sum)),
             Line::Scan { range, count, sum } => Some(self.scan(lent, range, Seen { count, sum })),
             Line::Recover { excess, state } => Some(self.recover(lent, excess, state)),
-            Line::Sequence { start } => self.begin(lent, start),
+            Line::Sequence { start } => {
+                self.begin(lent, start);
+                None
+            }
             Line::Note {
                 id,
                 complete,
@@ -126,13 +136,12 @@ impl World {
     }
 
     // A store is filled with a byte that is not zero, so that zeros in a page are the push's own.
-    fn fresh(&mut self, lent: &mut Lent, seed: u64) -> Option<bool> {
+    fn fresh(&mut self, lent: &mut Lent, seed: u64) {
         lent.store.fill(0x5a);
         draw(&mut lent.pattern, seed);
         self.state = State::fresh();
         self.staged = 0;
         self.end = 0;
-        None
     }
 
     fn stage(&mut self, lent: &mut Lent, id: u64, length: u64) -> Option<bool> {
@@ -166,10 +175,9 @@ impl World {
             && sum::of_front(0, &lent.store, after.length) == sum
     }
 
-    fn next(&mut self, id: u64) -> Option<bool> {
+    fn next(&mut self, id: u64) {
         self.state.next = id;
         self.state.ceiling = id;
-        None
     }
 
     // A page with mark 0; the rest of it is the store's.
@@ -215,10 +223,9 @@ impl World {
             })
     }
 
-    fn begin(&mut self, lent: &mut Lent, start: u64) -> Option<bool> {
+    fn begin(&mut self, lent: &mut Lent, start: u64) {
         lent.words.fill(0);
         self.sequence = IdSequence::new(start);
-        None
     }
 
     fn note(&mut self, lent: &mut Lent, id: u64, complete: bool, sequence: IdSequence) -> bool {

@@ -25,6 +25,7 @@ impl IdSequence {
         }
     }
 
+    // Notes an id. The words stay apart from the sequence: C lends them.
     #[tactic(auto, using(crate::proofs::Notes::note_below, crate::proofs::Notes::note_far, crate::proofs::Notes::note_last))]
     pub fn note(self, words: &mut [u64; 64], id: u64) -> Result<IdSequence, Refusal>
         ensures result_value { paper_noted result ≡ (note_of self words.old id).answer }

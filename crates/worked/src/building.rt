@@ -64,7 +64,7 @@ fn put_byte(store: &mut [u8], line: Line<'_>) {
     }
 }
 
-// Says the first bytes of an output, as many as an answer says, or of long ones only whether they are as written for the id.
+// Says the first bytes of an output, as many as an answer says, or of long ones only whether they are as written for the id: n may be more than there are.
 pub fn handed(rt: &impl Print, out: &[u8], n: usize, id: u64) -> io::Result<()> {
     match out.get(..n) {
         None => Ok(()),

@@ -70,7 +70,7 @@ fn begin(rt: &impl Print, start: u64) -> io::Result<IdSequence> {
     Ok(s)
 }
 
-// Says what noting each id of a line gives.
+// Says what noting each id of a line gives. The words go beside the sequence, as its caller lends them.
 fn notes(
     rt: &impl Print,
     s: IdSequence,

@@ -140,7 +140,7 @@ pub fn untouched(rt: &impl Print, log: Log<'_>) -> io::Result<()> {
     }
 }
 
-// Pushes onto a store, says what that answered, and hands on the state.
+// Pushes onto a store, says what that answered, and hands on the state. All go apart, as a push takes them.
 fn further(
     rt: &impl Print,
     store: &mut [u8],

@@ -20,29 +20,28 @@ impl fmt::Display for Told<State> {
     }
 }
 
-// The words before the page or the length that a refusal names, or none.
-fn naming(refusal: Refusal) -> &'static str {
+// The words before the page or the length that a refusal names.
+fn naming(refusal: Refusal) -> Option<&'static str> {
     match refusal {
         Refusal::BadMark { .. }
         | Refusal::ShortEntry { .. }
         | Refusal::CutEntry { .. }
         | Refusal::NoEntries { .. }
         | Refusal::Overlap { .. }
-        | Refusal::NotAscending { .. } => " at page ",
-        Refusal::BufferSmall { .. } => ", needs ",
-        _ => "",
+        | Refusal::NotAscending { .. } => Some(" at page "),
+        Refusal::BufferSmall { .. } => Some(", needs "),
+        _ => None,
     }
 }
 
 // A refusal as the rules name it: its number, and the page or length.
 impl fmt::Display for Told<Refusal> {
     fn fmt<W: fmt::Write>(&self, f: &mut fmt::Formatter<W>) -> fmt::Result {
-        let words = naming(self.0);
         write!(f, "refusal {}", self.0.number())?;
-        if words.is_empty() {
-            return Ok(());
+        match naming(self.0) {
+            None => Ok(()),
+            Some(words) => write!(f, "{words}{}", self.0.value()),
         }
-        write!(f, "{words}{}", self.0.value())
     }
 }
 

@@ -159,36 +159,49 @@ fn next(stepped: Result<Stepped, Refusal>) -> Option<u64> {
     }
 }
 
-// Takes a step into an output, says what that gave, and hands on where the next begins.
-fn told(
-    rt: &impl Print,
-    log: Log<'_>,
+// A log, and the range that is scanned in it.
+#[derive(Clone, Copy)]
+struct Scan<'a> {
+    log: Log<'a>,
     range: Range,
-    cursor: u64,
-    out: &mut [u8],
-) -> io::Result<Option<u64>> {
-    let stepped = scanning::step(log, range, cursor, out);
-    answer(rt, stepped, out)?;
-    Ok(next(stepped))
 }
 
-// The same, with an output of 4,096 bytes.
-fn roomy(rt: &impl Print, log: Log<'_>, range: Range, cursor: u64) -> io::Result<Option<u64>> {
-    let mut out = [0; 4096];
-    told(rt, log, range, cursor, &mut out)
-}
-
-// Takes steps from a cursor to the end, or to a refusal.
-fn steps(rt: &impl Print, log: Log<'_>, range: Range, from: u64) -> io::Result<()> {
-    let mut at = from;
-    for _ in 0..9 {
-        rt.print("; ")?;
-        let Some(cursor) = roomy(rt, log, range, at)? else {
-            break;
-        };
-        at = cursor;
+impl Scan<'_> {
+    // Takes a step into an output, says what that gave, and hands on where the next begins.
+    fn told(self, rt: &impl Print, cursor: u64, out: &mut [u8]) -> io::Result<Option<u64>> {
+        let stepped = scanning::step(self.log, self.range, cursor, out);
+        answer(rt, stepped, out)?;
+        Ok(next(stepped))
     }
-    Ok(())
+
+    // The same, with an output of 4,096 bytes.
+    fn roomy(self, rt: &impl Print, cursor: u64) -> io::Result<Option<u64>> {
+        let mut out = [0; 4096];
+        self.told(rt, cursor, &mut out)
+    }
+
+    // Takes steps from a cursor to the end, or to a refusal.
+    fn steps(self, rt: &impl Print, from: u64) -> io::Result<()> {
+        let mut at = from;
+        for _ in 0..9 {
+            rt.print("; ")?;
+            let Some(cursor) = self.roomy(rt, at)? else {
+                break;
+            };
+            at = cursor;
+        }
+        Ok(())
+    }
+
+    // Runs the whole of it.
+    fn whole(self, rt: &impl Print) -> io::Result<()> {
+        let began = scanning::scan(self.log, self.range);
+        print!(rt; ": {}", Told(began))?;
+        match began {
+            Ok(cursor) => self.steps(rt, cursor),
+            Err(_) => Ok(()),
+        }
+    }
 }
 
 // "range LOWER UPPER": runs a whole scan and says what that gave.
@@ -196,24 +209,16 @@ pub fn range(rt: &impl Print, log: Log<'_>, line: Line<'_>) -> io::Result<()> {
     let range = between(line.word(1), line.word(2));
     say_bound(rt, range.lower, "  from the first", "  from ", "  above ")?;
     say_bound(rt, range.upper, " to the last", " to ", " below ")?;
-    whole(rt, log, range)?;
+    Scan { log, range }.whole(rt)?;
     rt.println("")
-}
-
-fn whole(rt: &impl Print, log: Log<'_>, range: Range) -> io::Result<()> {
-    let began = scanning::scan(log, range);
-    print!(rt; ": {}", Told(began))?;
-    match began {
-        Ok(cursor) => steps(rt, log, range, cursor),
-        Err(_) => Ok(()),
-    }
 }
 
 // "at CURSOR LOWER UPPER": takes one step from a cursor.
 pub fn at(rt: &impl Print, log: Log<'_>, line: Line<'_>) -> io::Result<()> {
     let cursor = line.number(1);
     print!(rt; "  from {cursor}: ")?;
-    roomy(rt, log, between(line.word(2), line.word(3)), cursor)?;
+    let range = between(line.word(2), line.word(3));
+    Scan { log, range }.roomy(rt, cursor)?;
     rt.println("")
 }
 
@@ -229,6 +234,6 @@ pub fn out(rt: &impl Print, log: Log<'_>, line: Line<'_>) -> io::Result<()> {
 fn into(rt: &impl Print, log: Log<'_>, line: Line<'_>, dots: &mut [u8]) -> io::Result<()> {
     rt.print("  ")?;
     let range = between(line.word(2), line.word(3));
-    told(rt, log, range, line.number(4), dots)?;
+    Scan { log, range }.told(rt, line.number(4), dots)?;
     say::dots(rt, dots)
 }

@@ -9,6 +9,7 @@ use Rattle.catalog.specs.Raise.{raised, refused as unraised, bad_step, raise_of}
 use Rattle.catalog.specs.declared.state.State.{State}
 use Rattle.catalog.proofs.Laws.Bounds.{neither}
 
+-- kept: docs/PROVING.md names it
 pub state_by : (n n' last last' next next' ceiling ceiling' : ℕ) → n ≡ n' → last ≡ last' → next ≡ next' → ceiling ≡ ceiling'
     → state_of n last next ceiling ≡ state_of n' last' next' ceiling'
 state_by n n' last last' next next' ceiling ceiling' a b c d = rw (a, b, c, d)

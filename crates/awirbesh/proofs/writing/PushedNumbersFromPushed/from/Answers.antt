@@ -1,8 +1,0 @@
--- `PushedNumbers::from` meets its contract. Assumes nothing.
--- The check finds this alone: it stands so that a wrong program is refused at the fact that is false.
-use native.Mathlib.Omega.{arith}
-use Rattle.awirbesh.proofs.Numbers.{reason_is}
-use Rattle.awirbesh.proofs.writing.PushedNumbersFromPushed.from.Goals as goal
-
-pub returns : goal.returns
-returns c = rw c.into.ensures (reason_is c.args.pushed _ (omega (arith, c.reason_number.ensures)))
