@@ -77,7 +77,8 @@ struct Window {
     b: u64,
 }
 
-// The rounds: guess a page of the window, walk back to a start, and keep the side of it that may hold the id. A fault leaves by the break, as it was asked for, and not by `?`.
+// The rounds: guess a page of the window, walk back to a start, and keep the side of it that may hold the id.
+// A `loop`, and no `?`: a labelled break leaves both loops with the answer, on found or on a fault, as it was asked for.
 fn search(log: &[u8], next: u64, id: u64) -> Result<Look, Refusal>
     requires { (1 ≤ id) × (id < next) × (length log.now ≤ 2 ^ 31) }
     ensures { paper_look result ≡ search_of log.now next id }
