@@ -9,7 +9,7 @@ use crate::bounds;
 use page::{Mark, Page};
 use refusal::Refusal;
 
-// A page that was read has no fault: where to go on, and the last id before that page.
+// A page that was read has no fault: where to go on, and the last id before that page. Neither printed nor compared.
 #[derive(Clone, Copy)]
 struct Passed {
     page: usize,

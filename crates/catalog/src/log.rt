@@ -6,6 +6,7 @@ use crate::bounds;
 use crate::state::State;
 use refusal::Refusal;
 
+// A store and its state. Neither printed nor compared.
 #[derive(Clone, Copy)]
 pub struct Log<'a> {
     pub store: &'a [u8],

@@ -19,7 +19,7 @@ pub enum Look {
     Absent { position: u64 },
 }
 
-// What a page says to the walk back: the id is found here, the entry here lies below or above it, or none starts here.
+// What a page says to the walk back: the id is found here, the entry here lies below or above it, or none starts here. Neither printed nor compared.
 #[derive(Clone, Copy)]
 enum Says {
     Found { position: u64, length: u64 },
@@ -68,7 +68,7 @@ fn asked(page: Page<'_>, id: u64) -> Result<Says, Refusal>
     }
 }
 
-// The pages from lo to below hi, and an id below and one above all of theirs.
+// The pages from lo to below hi, and an id below and one above all of theirs. Neither printed nor compared.
 #[derive(Clone, Copy)]
 struct Window {
     lo: usize,

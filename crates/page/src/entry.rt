@@ -7,7 +7,7 @@ ghost use Rattle.page.specs.Entry.{entry_at, paper_entry, whole_of};
 use crate::Page;
 use refusal::Refusal;
 
-// What an entry's first page says of it: the payload's length and the id.
+// What an entry's first page says of it: the payload's length and the id. Neither printed nor compared.
 #[derive(Clone, Copy)]
 struct Header {
     length: usize,

@@ -13,7 +13,7 @@ pub use entry::{Entry, Whole};
 pub use marks::Mark;
 pub use writing::write_entry;
 
-// A page of a log, by its number.
+// A page of a log, by its number. Neither printed nor compared.
 #[derive(Clone, Copy)]
 pub struct Page<'a> {
     pub log: &'a [u8],

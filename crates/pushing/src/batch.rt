@@ -5,6 +5,7 @@ ghost use Rattle.pushing.specs.Push.{before, bad_batch, some_large};
 use page::Page;
 use refusal::Refusal;
 
+// The ids, where each entry's data ends, and the data. Neither printed nor compared.
 #[derive(Clone, Copy)]
 pub(crate) struct Batch<'a> {
     pub(crate) ids: &'a [u64],

@@ -4,7 +4,7 @@ use scanning::Range;
 use sequence::IdSequence;
 use std::ops::Bound;
 
-// What is called, with what the Rust answered.
+// What is called, with what the Rust answered. Neither printed nor compared.
 #[derive(Clone, Copy)]
 pub enum Line {
     Fresh {

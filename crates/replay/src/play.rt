@@ -19,7 +19,7 @@ pub struct Lent {
     pub words: [u64; 64],
 }
 
-// What goes on from line to line beside them.
+// What goes on from line to line beside them. Neither printed nor compared.
 #[derive(Clone, Copy)]
 pub struct World {
     state: State,

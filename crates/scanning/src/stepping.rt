@@ -11,7 +11,7 @@ use page::{Mark, Page, Whole};
 use refusal::Refusal;
 use std::ops::ControlFlow;
 
-// An entry of the range and the page at which it starts, with nothing copied yet.
+// An entry of the range and the page at which it starts, with nothing copied yet. Neither printed nor compared.
 #[derive(Clone, Copy)]
 struct Met {
     page: usize,
@@ -46,7 +46,7 @@ impl Range {
     }
 }
 
-// A log, and the range whose entries a step looks for in it.
+// A log, and the range whose entries a step looks for in it. Neither printed nor compared.
 #[derive(Clone, Copy)]
 struct Walk<'a> {
     log: &'a [u8],

@@ -91,7 +91,7 @@ fn note(rt: &impl Print, s: IdSequence, words: &mut [u64; 64], id: u64) -> io::R
     Ok(noted.unwrap_or(s))
 }
 
-// A sequence, and how often each answer came on the way to it.
+// A sequence, and how often each answer came on the way to it. Printed by its own words, and never compared.
 #[derive(Clone, Copy)]
 struct Tally {
     sequence: IdSequence,

@@ -1,6 +1,7 @@
 // A line of a script: words and numbers, with a space between two.
 use std::str::Split;
 
+// A line's text. Neither printed nor compared.
 #[derive(Clone, Copy)]
 pub struct Line<'a>(pub &'a str);
 

@@ -5,7 +5,7 @@ use refusal::Refusal;
 use sequence::IdSequence;
 use std::{fmt, io};
 
-// An answer in words.
+// An answer in words. Never compared.
 #[derive(Clone, Copy)]
 pub struct Told<T>(pub T);
 

@@ -159,7 +159,7 @@ fn next(stepped: Result<Stepped, Refusal>) -> Option<u64> {
     }
 }
 
-// A log, and the range that is scanned in it.
+// A log, and the range that is scanned in it. Neither printed nor compared.
 #[derive(Clone, Copy)]
 struct Scan<'a> {
     log: Log<'a>,

@@ -19,7 +19,8 @@ fn lines(rt: &impl Print, store: &mut [u8], script: &str) -> io::Result<()> {
     Ok(())
 }
 
-// Does what the first word of a line says, and hands on the state. A script is data, so this is a match.
+// Does what the first word of a line says, and hands on the state, which is apart from the store, as for a push. A script is data, so this
+// is a match.
 fn act(rt: &impl Print, store: &mut [u8], state: State, line: Line<'_>) -> io::Result<State> {
     match line.word(0) {
         "state" => Ok(stated(line)),

@@ -17,7 +17,7 @@ lies p =
     let s = p.in-Some.ensures.steps in
     data_inside p.args.batch.good p.loop-written.invariant _ _ _ _ s.0.0 s.0.1
 
--- the check finds this alone; it is written so that a loop over other ids fails at the ids
+-- The check finds this alone: it stands so that a wrong program is refused at the fact that is false, the ids that are left.
 pub loop-written-init : goal.loop-written-init
 loop-written-init c =
     let pairs = ap enumerate_source c.into_iter-written-iterator.ensures.into_iter_gives ∙ c.enumerate-written-items.ensures.source in
