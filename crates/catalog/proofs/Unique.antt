@@ -3,7 +3,6 @@ use Prim.Native.Nat.{ℕ}
 use mathlib.Core.Path.{◌≡◌, refl, sym, ap, ◌∙◌}
 use mathlib.Core.Bool.{Bool}
 use mathlib.Core.List.{List}
-use native.Mathlib.Omega.{arith}
 use Rattle.std.specs.Prelude.{Result, Ok, Err}
 use Rattle.refusal.specs.declared.Refusal.{Refusal}
 use Rattle.refusal.specs.declared.Refusal.TheVariants.{BadState}
@@ -35,38 +34,39 @@ recovered_back (unrecovered number value) = Err BadState
 pub taken_unique : (r s : Result Taken Refusal) → paper_taken r ≡ paper_taken s → r ≡ s
 unfolding taken_back
 taken_unique (Ok t) (Ok t') e = ap taken_back e
-taken_unique (Ok t) (Err r') e = absurd (let z : ◌≡◌ {A = ℕ} 0 1 = cc in omega arith)
-taken_unique (Err r) (Ok t') e = absurd (let z : ◌≡◌ {A = ℕ} 0 1 = cc in omega arith)
+taken_unique (Ok t) (Err r') e = cc
+taken_unique (Err r) (Ok t') e = cc
 taken_unique (Err r) (Err r') e = ap Err (refusal_unique r r' (cc) (cc))
 
 pub raised_unique : (r s : Result State Refusal) → paper_raised r ≡ paper_raised s → r ≡ s
 raised_unique (Ok st) (Ok st') e = cc
-raised_unique (Ok st) (Err r') e = absurd (let z : ◌≡◌ {A = ℕ} 0 1 = cc in omega arith)
-raised_unique (Err r) (Ok st') e = absurd (let z : ◌≡◌ {A = ℕ} 0 1 = cc in omega arith)
+raised_unique (Ok st) (Err r') e = cc
+raised_unique (Err r) (Ok st') e = cc
 raised_unique (Err r) (Err r') e = ap Err (refusal_unique r r' (cc) (cc))
 
 pub checked_unique : (r s : Result Unit Refusal) → paper_checked r ≡ paper_checked s → r ≡ s
 checked_unique (Ok _) (Ok _) e = refl
-checked_unique (Ok _) (Err r') e = absurd (let z : ◌≡◌ {A = ℕ} 0 1 = cc in omega arith)
-checked_unique (Err r) (Ok _) e = absurd (let z : ◌≡◌ {A = ℕ} 0 1 = cc in omega arith)
+checked_unique (Ok _) (Err r') e = cc
+checked_unique (Err r) (Ok _) e = cc
 checked_unique (Err r) (Err r') e = ap Err (refusal_unique r r' (cc) (cc))
 
-pub recovered_unique : (r s : Result Recovered Refusal) → paper_recovered r ≡ paper_recovered s → r ≡ s
+pub recovered_unique : (r s : Result Recovered Refusal)
+    → paper_recovered r ≡ paper_recovered s → r ≡ s
 unfolding recovered_back
 recovered_unique (Ok r) (Ok s) e = ap recovered_back e
-recovered_unique (Ok r) (Err r') e = absurd (let z : ◌≡◌ {A = ℕ} 0 1 = cc in omega arith)
-recovered_unique (Err r) (Ok s) e = absurd (let z : ◌≡◌ {A = ℕ} 0 1 = cc in omega arith)
+recovered_unique (Ok r) (Err r') e = cc
+recovered_unique (Err r) (Ok s) e = cc
 recovered_unique (Err r) (Err r') e = ap Err (refusal_unique r r' (cc) (cc))
 
 pub look_unique : (r s : Result Look Refusal) → paper_look r ≡ paper_look s → r ≡ s
 look_unique (Ok (Found position len)) (Ok (Found position' len')) e = cc
-look_unique (Ok (Found position len)) (Ok (Absent position')) e = absurd (let z : ◌≡◌ {A = ℕ} 0 1 = cc in omega arith)
-look_unique (Ok (Found position len)) (Err r') e = absurd (let z : ◌≡◌ {A = ℕ} 0 1 = cc in omega arith)
-look_unique (Ok (Absent position)) (Ok (Found position' len')) e = absurd (let z : ◌≡◌ {A = ℕ} 0 1 = cc in omega arith)
+look_unique (Ok (Found position len)) (Ok (Absent position')) e = cc
+look_unique (Ok (Found position len)) (Err r') e = cc
+look_unique (Ok (Absent position)) (Ok (Found position' len')) e = cc
 look_unique (Ok (Absent position)) (Ok (Absent position')) e = cc
-look_unique (Ok (Absent position)) (Err r') e = absurd (let z : ◌≡◌ {A = ℕ} 0 1 = cc in omega arith)
-look_unique (Err r) (Ok (Found position' len')) e = absurd (let z : ◌≡◌ {A = ℕ} 0 1 = cc in omega arith)
-look_unique (Err r) (Ok (Absent position')) e = absurd (let z : ◌≡◌ {A = ℕ} 0 1 = cc in omega arith)
+look_unique (Ok (Absent position)) (Err r') e = cc
+look_unique (Err r) (Ok (Found position' len')) e = cc
+look_unique (Err r) (Ok (Absent position')) e = cc
 look_unique (Err r) (Err r') e = ap Err (refusal_unique r r' (cc) (cc))
 
 -- what is lent by its values, which is all that can be read of it
@@ -103,7 +103,8 @@ module _ (store : List ℕ) (st : State) where
   pub find_unique : (id : ℕ) (r s : Result Look Refusal) → paper_look r ≡ find_of store st id → paper_look s ≡ find_of store st id → r ≡ s
   find_unique id = by_paper paper_look look_unique (find_of store st id)
 
-  pub lookup_unique : (id : ℕ) (r s : Result Look Refusal) (out b c : List ℕ) → with_output (paper_look r) b ≡ lookup_of store st id out → with_output (paper_look s) c ≡ lookup_of store st id out → (r ≡ s) × (b ≡ c)
+  pub lookup_unique : (id : ℕ) (r s : Result Look Refusal) (out b c : List ℕ)
+      → with_output (paper_look r) b ≡ lookup_of store st id out → with_output (paper_look s) c ≡ lookup_of store st id out → (r ≡ s) × (b ≡ c)
   lookup_unique id r s out b c p q =
       let e = p ∙ sym q in
       (look_unique r s (ap (λ (x : WithOutput Looking). x.answer) e), ap (λ (x : WithOutput Looking). x.out) e)

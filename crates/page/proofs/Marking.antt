@@ -60,23 +60,23 @@ module _ (p m : ℕ) where
     where
       go : (x y : Bool) → eqb m 1 ≡ x → Ok Start ≡ pick x (Ok Start) (pick y (Ok Later) (Err (BadMark p))) → m ≡ 1
       go true y q e = eqb-true m 1 q
-      go false true q e = absurd (let z : ◌≡◌ {A = ℕ} 0 1 = cc in omega arith)
-      go false false q e = absurd (let z : ◌≡◌ {A = ℕ} 0 1 = cc in omega arith)
+      go false true q e = cc
+      go false false q e = cc
 
   pub is_later : Ok Later ≡ mark_of p m → m ≡ 0
   is_later e = go (eqb m 1) (eqb m 0) refl e
     where
       go : (x y : Bool) → eqb m 0 ≡ y → Ok Later ≡ pick x (Ok Start) (pick y (Ok Later) (Err (BadMark p))) → m ≡ 0
-      go true y q e = absurd (let z : ◌≡◌ {A = ℕ} 0 1 = cc in omega arith)
+      go true y q e = cc
       go false true q e = eqb-true m 0 q
-      go false false q e = absurd (let z : ◌≡◌ {A = ℕ} 0 1 = cc in omega arith)
+      go false false q e = cc
 
   pub is_bad : {e : Refusal} → Err e ≡ mark_of p m → IsBad m
   is_bad {e} s = go (eqb m 1) (eqb m 0) refl refl s
     where
       go : (x y : Bool) → eqb m 1 ≡ x → eqb m 0 ≡ y → Err e ≡ pick x (Ok Start) (pick y (Ok Later) (Err (BadMark p))) → IsBad m
-      go true y q r s = absurd (let z : ◌≡◌ {A = ℕ} 0 1 = cc in omega arith)
-      go false true q r s = absurd (let z : ◌≡◌ {A = ℕ} 0 1 = cc in omega arith)
+      go true y q r s = cc
+      go false true q r s = cc
       go false false q r s = (eqb-false m 1 q, eqb-false m 0 r)
 
   pub names_mark : {e : Refusal} → Err e ≡ mark_of p m → e ≡ BadMark p

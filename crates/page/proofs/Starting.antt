@@ -53,8 +53,8 @@ module _ (log : List ℕ) (s : ℕ) where
 -- ---- what the code's answer for what starts at page s tells
 
 pub the_whole : (s : ℕ) (st : Starting) {w : entire.Whole} → Ok w ≡ whole_of s st → st ≡ whole w.id w.length w.after
-the_whole s short h = absurd (let z : ◌≡◌ {A = ℕ} 0 1 = cc in omega arith)
-the_whole s (cut id) h = absurd (let z : ◌≡◌ {A = ℕ} 0 1 = cc in omega arith)
+the_whole s short h = cc
+the_whole s (cut id) h = cc
 the_whole s (whole id len after) h = cc
 
 -- ---- a whole entry
@@ -73,8 +73,8 @@ is_whole {log} {s} {id} {len} {after} e = go (ltb (length_at log s) id_size) (lt
     go : (x y : Bool) → ltb (length_at log s) id_size ≡ x → ltb (page_count log) (after_at log s) ≡ y
         → pick x short (pick y (cut (id_at log s)) (whole (id_at log s) (data_length_at log s) (after_at log s))) ≡ whole id len after
         → IsWhole log s id len after
-    go true y p q e = absurd (let z : ◌≡◌ {A = ℕ} 0 1 = cc in omega arith)
-    go false true p q e = absurd (let z : ◌≡◌ {A = ℕ} 0 1 = cc in omega arith)
+    go true y p q e = cc
+    go false true p q e = cc
     go false false p q e = record {
       long = ltb-false (length_at log s) id_size p;
       within = (let a : after ≡ after_at log s = cc in omega (arith, ltb-false (page_count log) (after_at log s) q));
@@ -91,9 +91,9 @@ is_cut log s {id} e = go (ltb (length_at log s) id_size) (ltb (page_count log) (
     go : (x y : Bool) → ltb (page_count log) (after_at log s) ≡ y
         → pick x short (pick y (cut (id_at log s)) (whole (id_at log s) (data_length_at log s) (after_at log s))) ≡ cut id
         → page_count log < after_at log s
-    go true y q e = absurd (let z : ◌≡◌ {A = ℕ} 0 1 = cc in omega arith)
+    go true y q e = cc
     go false true q e = ltb-true (page_count log) (after_at log s) q
-    go false false q e = absurd (let z : ◌≡◌ {A = ℕ} 0 1 = cc in omega arith)
+    go false false q e = cc
 
 -- a start whose length and pages are right is a whole entry
 pub whole_at : (log : List ℕ) (s : ℕ) → id_size ≤ length_at log s → after_at log s ≤ page_count log → entry_at log s ≡ whole (id_at log s) (data_length_at log s) (after_at log s)

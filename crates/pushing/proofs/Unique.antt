@@ -2,7 +2,6 @@
 use Prim.Native.Nat.{ℕ}
 use mathlib.Core.Path.{◌≡◌, refl, sym, ap, ◌∙◌}
 use mathlib.Core.List.{List}
-use native.Mathlib.Omega.{arith}
 use Rattle.std.proofs.Common.{Option, None, Some}
 use Rattle.refusal.proofs.Unique.{refusal_unique}
 use Rattle.refusal.specs.declared.Refusal.{Refusal}
@@ -12,8 +11,8 @@ use Rattle.pushing.specs.declared.Pushed.{Pushed}
 
 pub reason_unique : (r s : Option Refusal) → paper_reason r ≡ paper_reason s → r ≡ s
 reason_unique None None e = refl
-reason_unique None (Some r') e = absurd (let z : ◌≡◌ {A = ℕ} 0 1 = cc in omega arith)
-reason_unique (Some r) None e = absurd (let z : ◌≡◌ {A = ℕ} 0 1 = cc in omega arith)
+reason_unique None (Some r') e = cc
+reason_unique (Some r) None e = cc
 reason_unique (Some r) (Some r') e = ap Some (refusal_unique r r' (cc) (cc))
 
 made : (r s : Option Refusal) (m n : ℕ) (a b : State) → r ≡ s → m ≡ n → a ≡ b

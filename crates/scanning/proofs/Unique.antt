@@ -34,7 +34,9 @@ module _ (store : List ℕ) (st : State) where
   pub scan_unique : (range : Range) (r s : Result ℕ Refusal) → paper_started r ≡ scan_of store st range → paper_started s ≡ scan_of store st range → r ≡ s
   scan_unique range = by_paper paper_started started_unique (scan_of store st range)
 
-  pub step_unique : (range : Range) (cursor : ℕ) (r s : Result Stepped Refusal) (out b c : List ℕ) → with_output (paper_stepped r) b ≡ step_of store st range cursor out → with_output (paper_stepped s) c ≡ step_of store st range cursor out → (r ≡ s) × (b ≡ c)
+  pub step_unique : (range : Range) (cursor : ℕ) (r s : Result Stepped Refusal) (out b c : List ℕ)
+      → with_output (paper_stepped r) b ≡ step_of store st range cursor out
+      → with_output (paper_stepped s) c ≡ step_of store st range cursor out → (r ≡ s) × (b ≡ c)
   step_unique range cursor r s out b c p q =
       let e = p ∙ sym q in
       (stepped_unique r s (ap (λ (x : WithOutput Stepping). x.answer) e), ap (λ (x : WithOutput Stepping). x.out) e)

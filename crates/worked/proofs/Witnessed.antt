@@ -404,7 +404,7 @@ cut_in_three = cut_at_byte (log_of begins) store_is_sound.sound 3500 (lit≤ tt)
 -- nothing is cut off the whole log
 pub whole_uncut : recover_of store 4096 0 ≡ strict_of store 4096 0
 unfolding pages_for page_at number_at bytes_of mark_at length_at id_at entry_at filled first_page later_page later_pages entry_pages too_long at_whole strict_at strict_back strict_of
-whole_uncut = uncut_same store 4096 0 (λ s e. absurd (let z : ◌≡◌ {A = ℕ} 0 1 = cc in omega arith))
+whole_uncut = uncut_same store 4096 0 (λ s e. cc)
 
 -- ---- 13.6, of any 16,777,208 bytes and any store with last written 6
 

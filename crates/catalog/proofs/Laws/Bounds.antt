@@ -3,7 +3,6 @@ use Prim.Native.Nat.{ℕ, ◌%◌, ◌≤◌, ◌^◌}
 use mathlib.Core.Path.{◌≡◌, refl}
 use mathlib.Core.Bool.{Bool, true, false, ◌||◌}
 use mathlib.Core.List.{List}
-use native.Mathlib.Omega.{arith}
 use borrow.Author.Tests.{le-ltb, eq-eqb, ltb-false, eqb-true, not-false}
 use lib.ListN.{length, take}
 use lib.Seq.{length-take-le}
@@ -15,7 +14,7 @@ use Rattle.catalog.specs.Bounds.{too_long, bad_state, log_of, Fits, Good}
 use Rattle.catalog.specs.declared.state.State.{State}
 
 pub neither : (s t : Bool) → (s || t) ≡ false → (s ≡ false) × (t ≡ false)
-neither true t e = absurd (let z : ◌≡◌ {A = ℕ} 0 1 = cc in omega arith)
+neither true t e = cc
 neither false t e = (refl, e)
 
 pub fitting : (store : List ℕ) (n : ℕ) → too_long store n ≡ false → Fits store n
@@ -53,7 +52,7 @@ unfolding log_of
 is_log store st {log} e = go (bad_state store st.length) refl e
   where
     go : (b : Bool) → bad_state store st.length ≡ b → Ok log ≡ pick b (Err BadState) (Ok (take st.length store)) → IsLog store st.length log
-    go true q e = absurd (let z : ◌≡◌ {A = ℕ} 0 1 = cc in omega arith)
+    go true q e = cc
     go false q e =
         let is : log ≡ take st.length store = cc in
         let good = good_state store st.length q in

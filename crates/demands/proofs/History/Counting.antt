@@ -102,13 +102,13 @@ module _ (w : World) (id : ℕ) (state : State) where
 
   pub hands_next : (c : Call) → answer w c ≡ handed_out (taken id state) → IsNext w.state (step w c).state id
   unfolding step answer
-  hands_next (push ids ends bytes words) e = absurd (let z : ◌≡◌ {A = ℕ} 0 1 = cc in omega arith)
+  hands_next (push ids ends bytes words) e = cc
   hands_next take_id e = take_next (cc)
-  hands_next (raise by) e = absurd (let z : ◌≡◌ {A = ℕ} 0 1 = cc in omega arith)
-  hands_next (find i) e = absurd (let z : ◌≡◌ {A = ℕ} 0 1 = cc in omega arith)
-  hands_next (lookup i out) e = absurd (let z : ◌≡◌ {A = ℕ} 0 1 = cc in omega arith)
-  hands_next (scan range) e = absurd (let z : ◌≡◌ {A = ℕ} 0 1 = cc in omega arith)
-  hands_next (step_on range cursor out) e = absurd (let z : ◌≡◌ {A = ℕ} 0 1 = cc in omega arith)
-  hands_next (recover stored) e = absurd (let z : ◌≡◌ {A = ℕ} 0 1 = cc in omega arith)
-  hands_next (lend rest) e = absurd (let z : ◌≡◌ {A = ℕ} 0 1 = cc in omega arith)
-  hands_next (cut_log n stored rest) e = absurd (let z : ◌≡◌ {A = ℕ} 0 1 = cc in omega arith)
+  hands_next (raise by) e = cc
+  hands_next (find i) e = cc
+  hands_next (lookup i out) e = cc
+  hands_next (scan range) e = cc
+  hands_next (step_on range cursor out) e = cc
+  hands_next (recover stored) e = cc
+  hands_next (lend rest) e = cc
+  hands_next (cut_log n stored rest) e = cc

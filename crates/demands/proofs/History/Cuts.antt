@@ -121,9 +121,9 @@ module _ (base : List ℕ) (sound : Sound base) (w : World) (o : Over base w) (n
     full_left e = go (recover_of store (length kept) stored) e right.right
       where
         go : (r : Recovering) → r ≡ refused 9 0 → RightRecovery (first_pages log left) stored (excess_of (length kept)) (length kept / page_size - left) r → StandsFull base w n store
-        go r f (empty z) = absurd (let z : ◌≡◌ {A = ℕ} 0 1 = cc in omega arith)
+        go r f (empty z) = cc
         go r f (used_up p l u) = record { left = left; is_left = right.is_left; over = over_there (state_of (left * page_size) top_id top_id top_id) refl (last_entry p l u) }
-        go r f (goes_on p l u) = absurd (let z : ◌≡◌ {A = ℕ} 0 1 = cc in omega arith)
+        go r f (goes_on p l u) = cc
 
   -- THE LAW: a cut at or above the front leaves a world over it
   pub cut_leaves : CutLeaves base w stored (step w (cut_log n stored rest))

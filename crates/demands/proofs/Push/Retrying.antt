@@ -37,7 +37,7 @@ module _ (ids ends bytes : List ℕ) where
 
   unrefused : (j : ℕ) (q : Point) → KeepsId ids (done none j q)
   unfolding KeepsId
-  unrefused j q number which e = absurd (let z : ◌≡◌ {A = ℕ} 0 1 = cc in omega arith)
+  unrefused j q number which e = cc
 
   keeps_from : (n j : ℕ) (p : Point) → KeepsId ids (entries_from ids ends bytes n j p)
   unfolding entries_from

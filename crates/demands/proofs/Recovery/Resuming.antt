@@ -62,7 +62,7 @@ recovered_fits store n stored st excess dropped e = ⊎_elim refused_one (fittin
     refused_one : too_long store n ≡ true → Fits store n
     refused_one t =
         let bad = recover_bad store n stored t in
-        absurd (let z : ◌≡◌ {A = ℕ} 0 1 = cc in omega arith)
+        cc
 
 -- a state that goes on with a log: its length, its last stored id, and one more, or the stored ceiling
 pub record Resumed (log : List ℕ) (stored : ℕ) (st : State) : Type 0 where
@@ -84,6 +84,6 @@ pub recovered_resumes : (store : List ℕ) (n stored : ℕ) (st : State) (excess
     → Resumed (whole_pages store n) stored st
 recovered_resumes store n stored st excess dropped s e =
     by_recovery (λ r. r ≡ recovered st excess dropped → Resumed (whole_pages store n) stored st)
-    (λ f. absurd (let z : ◌≡◌ {A = ℕ} 0 1 = cc in omega arith))
+    (λ f. cc)
     (λ st' h f. let g : st ≡ st' = cc in rw g h)
     (recover_of store n stored) (recover_right store n stored (recovered_fits store n stored st excess dropped e) s) e

@@ -10,7 +10,8 @@ use Rattle.catalog.specs.declared.state.State.{State}
 use Rattle.std.specs.declared.ops.Bound.{Bound}
 use Rattle.scanning.specs.declared.range.Range.{Range}
 
-pub place_absent : (store : List ℕ) (st : State) (id cursor position : ℕ) → cursor ≡ position → absent position ≡ find_of store st id → at cursor ≡ from_look (find_of store st id)
+pub place_absent : (store : List ℕ) (st : State) (id cursor position : ℕ)
+    → cursor ≡ position → absent position ≡ find_of store st id → at cursor ≡ from_look (find_of store st id)
 place_absent store st id cursor position c e = rw (c, ← e)
 
 module _ (store : List ℕ) (st : State) (range : Range) where

@@ -165,7 +165,7 @@ module _ (log : List ℕ) (p last : ℕ) where
       go : (t : Round Checking Checkpoint) → CheckPageSays log p last t → t ≡ again (checkpoint q l) → p < q
       go t (passes_idle m z) e = let f : checkpoint (p + 1) last ≡ checkpoint q l = cc in omega (arith, ap (λ (at : Checkpoint). at.page) f)
       go t (passes_entry {id} {len} {after} m w h f) e = let g : checkpoint after id ≡ checkpoint q l = cc in omega (arith, ap (λ (at : Checkpoint). at.page) g, past_start w)
-      go t (finds_fault number value) e = absurd (let z : ◌≡◌ {A = ℕ} 0 1 = cc in omega arith)
+      go t (finds_fault number value) e = cc
 
 -- ---- the pages
 

@@ -36,7 +36,8 @@ module _ (store : List ℕ) (st : State) (id : ℕ) where
       found_copied s p l = rw (f, p) (hand_copied refused (found position len) log (position / page_size) len out l)
 
       -- the data is put to a part of the output
-      pub found_put : (s : ℕ) → s ≡ position / page_size → len ≤ length out → lookup_of store st id out ≡ with_output (found position len) (data_at log s (length (take len out)) ++ drop len out)
+      pub found_put : (s : ℕ) → s ≡ position / page_size → len ≤ length out
+          → lookup_of store st id out ≡ with_output (found position len) (data_at log s (length (take len out)) ++ drop len out)
       found_put s p l = rw (copied_part log s len out l) (found_copied s p l)
 
     pub absent_nothing : (position : ℕ) → find_of store st id ≡ absent position → lookup_of store st id out ≡ with_output (absent position) out

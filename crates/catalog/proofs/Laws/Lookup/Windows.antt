@@ -1,4 +1,4 @@
--- What the loop of `search` and the walk back of a round keep: the rounds that are left answer as the whole search, and the pages that are left as the whole walk. Assumes nothing.
+-- What the loops of `search` keep: the rounds that are left answer as the whole search, and the pages that are left as the walk from the guess. Assumes nothing.
 use Prim.Native.Nat.{ℕ, zero, suc, ◌+◌, ◌-◌, ◌*◌, ◌≤◌, ◌<◌, max}
 use mathlib.Core.Path.{◌≡◌, sym, ◌∙◌}
 use mathlib.Core.List.{List}
@@ -61,7 +61,8 @@ pub record BackLoop (log : List ℕ) (next id : ℕ) (w : Window) (g s : ℕ) : 
   pub up : s ≤ w.hi
   pub walked : rest_of log id w g (s - w.lo) ≡ round_from log id w (guess_in id w)
 
-pub guessed : {log : List ℕ} {next id : ℕ} {w : Window} → WindowLoop log next id w → w.lo < w.hi → (g past : ℕ) → g ≡ guess_in id w → past ≡ g + 1 → BackLoop log next id w g past
+pub guessed : {log : List ℕ} {next id : ℕ} {w : Window} → WindowLoop log next id w → w.lo < w.hi
+    → (g past : ℕ) → g ≡ guess_in id w → past ≡ g + 1 → BackLoop log next id w g past
 guessed {log} {next} {id} {w} h l g past e q =
     let i = guess_inside id w l in
     let low : w.lo ≤ g = rw e i.low in
@@ -81,7 +82,8 @@ module _ {log : List ℕ} {next id : ℕ} {w : Window} {g s : ℕ} (h : BackLoop
     unfolding turned
     page_ends r e = stopped h.around r h.some (turn (ends r) e)
 
-    pub page_below : (stored after lo' : ℕ) → below stored after ≡ saying_at log id (s - 1) → lo' ≡ max (g + 1) after → WindowLoop log next id (window lo' w.hi stored w.b)
+    pub page_below : (stored after lo' : ℕ) → below stored after ≡ saying_at log id (s - 1)
+        → lo' ≡ max (g + 1) after → WindowLoop log next id (window lo' w.hi stored w.b)
     unfolding turned
     page_below stored after lo' e m = narrowed h.around _ h.some (rw m (turn (below stored after) e))
 

@@ -32,7 +32,8 @@ pub window-preserved-in-Ok-Above : goal.window-preserved-in-Ok-Above
 window-preserved-in-Ok-Above c = windows.page_above c.loop-s.invariant.2 (omega arith) _ _ (rw c.in-Ok-Above.field-0-is at c.in-Ok-Above.ensures) (omega arith)
 
 pub loop-s-preserved : goal.loop-s-preserved
-loop-s-preserved c = (c.loop-s.invariant.0, c.loop-s.invariant.1, windows.further_back c.loop-s.invariant.2 (omega arith) (rw c.in-Ok-Back.field-0-is at c.in-Ok-Back.ensures))
+loop-s-preserved c =
+    (c.loop-s.invariant.0, c.loop-s.invariant.1, windows.further_back c.loop-s.invariant.2 (omega arith) (rw c.in-Ok-Back.field-0-is at c.in-Ok-Back.ensures))
 
 pub window-preserved : goal.window-preserved
 window-preserved c = windows.none_back c.loop-s.invariant.2 (omega arith) _ (omega arith)

@@ -29,7 +29,8 @@ within c s l n e = rw (e, (is_log _ _ c.in_ok-log.ensures).is) (data_within _ _ 
 pub invariant_of-copy_data : goal.invariant_of-copy_data
 invariant_of-copy_data c =
     let at = (goal.at.invariant_of-copy_data c).In-Found in
-    record { inside = omega (arith, at_page at, within at (c.in-Found.position / page_size) (omega arith) c.in-Found.length refl, pages_some (id_size + c.in-Found.length)) }
+    let end = within at (c.in-Found.position / page_size) (omega arith) c.in-Found.length refl in
+    record { inside = omega (arith, at_page at, end, pages_some (id_size + c.in-Found.length)) }
 
 pub copy_data-requires : goal.copy_data-requires
 copy_data-requires c =

@@ -10,7 +10,8 @@ use Rattle.scanning.proofs.Laws.Handing.{advance_entry}
 use Rattle.scanning.proofs.stepping.Walk.advance.Goals as goal
 use Rattle.scanning.proofs.stepping.Walk.advance.Goals.{In-Some}
 
-lies : (c : In-Some) → ReachedEntry c.args.self.log.now c.args.self.range c.in-Some.field-0.page c.in-Some.field-0.entry.id c.in-Some.field-0.entry.length c.in-Some.field-0.entry.after
+lies : (c : In-Some)
+    → ReachedEntry c.args.self.log.now c.args.self.range c.in-Some.field-0.page c.in-Some.field-0.entry.id c.in-Some.field-0.entry.length c.in-Some.field-0.entry.after
 lies c = reached_entry _ _ _ _ _ _ _ (rw c.in-Some.is at c.in_ok-page.ensures)
 
 pub invariant_of-start : goal.invariant_of-start
