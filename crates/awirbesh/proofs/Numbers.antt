@@ -1,14 +1,22 @@
 -- What stands in an answer's numbers, each with the equation that it has to meet. Assumes nothing.
 use Prim.Native.Nat.{ℕ}
 use mathlib.Core.Path.{◌≡◌}
+use Rattle.std.specs.Prelude.{Option, None, Some, MatchOption}
+use Rattle.refusal.specs.Refusal.{number_of}
+use Rattle.refusal.specs.declared.Refusal.{Refusal}
 use Rattle.catalog.specs.Lookup.{found}
 use Rattle.scanning.specs.Step.{refused as unstepped}
+use Rattle.pushing.specs.Push.{paper_reason, paper_pushed}
+use Rattle.pushing.specs.declared.Pushed.{Pushed}
+use Rattle.awirbesh.specs.State.{state_numbers}
 use Rattle.awirbesh.specs.Read.{look_numbers, stepped_numbers}
+use Rattle.awirbesh.specs.Push.{reason_number, pushed_numbers}
 use Rattle.awirbesh.specs.declared.state.StateNumbers.{StateNumbers}
 use Rattle.awirbesh.specs.declared.state.TakenNumbers.{TakenNumbers}
 use Rattle.awirbesh.specs.declared.state.RaisedNumbers.{RaisedNumbers}
 use Rattle.awirbesh.specs.declared.reading.LookNumbers.{LookNumbers}
 use Rattle.awirbesh.specs.declared.reading.SteppedNumbers.{SteppedNumbers}
+use Rattle.awirbesh.specs.declared.writing.PushedNumbers.{PushedNumbers}
 
 -- found is 1 for what was found
 abbrev looked : ℕ → ℕ → ℕ → ℕ → ℕ → LookNumbers
@@ -25,6 +33,19 @@ stepping number value kind id len cursor = record { number = number; value = val
 pub cursor_is : (given number value kind id len cursor : ℕ) → kind ≡ 0 → id ≡ 0 → len ≡ 0 → cursor ≡ given
     → stepping number value kind id len cursor ≡ stepped_numbers given (unstepped number value)
 cursor_is given number value kind id len cursor a b c e = rw (a, b, c, e)
+
+-- a push has the number of its reason
+abbrev pushed_by : ℕ → ℕ → StateNumbers → PushedNumbers
+pushed_by number written st = record { number = number; written = written; state = st }
+
+pub reason_is : (pushed : Pushed) (number : ℕ) → number ≡ reason_number (paper_reason pushed.reason)
+    → pushed_by number pushed.written (state_numbers pushed.state) ≡ pushed_numbers (paper_pushed pushed)
+reason_is pushed number e = rw e
+
+-- and that is the refusal's, or 0 for none
+pub reason_by : (reason : Option Refusal) (number : ℕ) → MatchOption reason (number ≡ 0) (λ r. number ≡ number_of r) → number ≡ reason_number (paper_reason reason)
+reason_by None number e = e
+reason_by (Some r) number e = e
 
 -- a refused take has the state given, and so has a refused raising
 abbrev numbers_of : ℕ → ℕ → ℕ → ℕ → StateNumbers

@@ -122,22 +122,31 @@ fn search(log: &[u8], next: u64, id: u64) -> Result<Look, Refusal>
     }
 }
 
+// Where an id stands in a log's bytes: 0 and an id from next on are absent, any other is searched for.
+#[tactic(auto, unfolding(crate::specs::Lookup::search_of))]
+fn seek(log: &[u8], next: u64, id: u64) -> Result<Look, Refusal>
+    requires { length log.now ≤ 2 ^ 31 }
+    ensures { paper_look result ≡ search_of log.now next id }
+{
+    if id == 0 {
+        return Ok(Look::Absent { position: 0 });
+    }
+    if next <= id {
+        return Ok(Look::Absent {
+            position: log.len() as u64,
+        });
+    }
+    search(log, next, id)
+}
+
 impl Log<'_> {
     // Where an id stands in the log, with nothing copied.
-    #[tactic(auto, unfolding(crate::specs::Lookup::find_of, crate::specs::Lookup::search_of, crate::specs::Bounds::log_of))]
+    #[tactic(auto, unfolding(crate::specs::Lookup::find_of, crate::specs::Bounds::log_of))]
     pub fn find(self, id: u64) -> Result<Look, Refusal>
         ensures { paper_look result ≡ find_of self.entry.store.now self.entry.state id }
     {
         let log = self.bytes()?;
-        if id == 0 {
-            return Ok(Look::Absent { position: 0 });
-        }
-        if self.state.next <= id {
-            return Ok(Look::Absent {
-                position: log.len() as u64,
-            });
-        }
-        search(log, self.state.next, id)
+        seek(log, self.state.next, id)
     }
 
     // Finds an id, and copies its data to the front of `out`.
@@ -146,7 +155,7 @@ impl Log<'_> {
         ensures { with_output (paper_look result) out.new ≡ lookup_of self.entry.store.now self.entry.state id out.old }
     {
         let log = self.bytes()?;
-        let look = self.find(id)?;
+        let look = seek(log, self.state.next, id)?;
         if let Look::Found { position, length } = look {
             if (out.len() as u64) < length {
                 return Err(Refusal::BufferSmall { needed: length });

@@ -22,6 +22,12 @@ unfolding number_at
 number_same l m a b zero h = refl
 number_same l m a b (suc k) h = rw (number_same l m a b k (λ i g. h i (omega arith)), h k (omega arith))
 
+-- k bytes hold a number below 256 ^ k
+pub number_below : (l : List ℕ) → ((i : ℕ) → get_or l i 0 < 256) → (a k : ℕ) → number_at l a k < 256 ^ k
+unfolding number_at
+number_below l b a zero = omega arith
+number_below l b a (suc k) = rw (pow-suc 256 k) (omega (arith, number_below l b a k, b (a + k)))
+
 -- what was put into k bytes reads back, as much of it as they hold
 pub number_back : (pre : List ℕ) (k n : ℕ) (post : List ℕ) → number_at (pre ++ (bytes_of k n ++ post)) (length pre) k ≡ n % 256 ^ k
 unfolding number_at bytes_of

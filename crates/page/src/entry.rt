@@ -1,6 +1,6 @@
 // What starts at a page: an entry's header, and where its pages end.
-ghost use Rattle.std.specs.Prelude.{◌≡◌, ◌+◌, ◌<◌, ◌≤◌, ◌^◌, length};
-ghost use Rattle.page.specs.Size.{length_size, id_size, payload_start, data_start, page_count};
+ghost use Rattle.std.specs.Prelude.{◌≡◌, ◌+◌, ◌<◌, ◌≤◌, length};
+ghost use Rattle.page.specs.Size.{length_size, id_size, payload_start, data_start, payload_end, page_count};
 ghost use Rattle.page.specs.Bytes.{number_at};
 ghost use Rattle.page.specs.Entry.{entry_at, paper_entry, whole_of};
 
@@ -18,7 +18,7 @@ impl Header {
     // `part` is the part of the log from the entry's start page.
     fn read(part: &[u8]) -> Header
         requires { data_start ≤ length part.now }
-        ensures { (result.length ≡ number_at part.now 1 length_size) × (result.id ≡ number_at part.now payload_start id_size) × (result.length < 2 ^ 32) }
+        ensures { (result.length ≡ number_at part.now 1 length_size) × (result.id ≡ number_at part.now payload_start id_size) × (result.length < payload_end) }
     {
         // a zero before its 3 bytes makes the length a u32
         let mut length = [0; 4];

@@ -1,3 +1,4 @@
 pub mod Start
 pub mod Forward
 pub mod Handing
+pub mod Range

@@ -89,6 +89,10 @@ pub record Going (after from : ℕ) (words₀ : List ℕ) (start : ℕ) (words :
   pub enough : after - start ≤ fuel
   pub same : rounds fuel after start words ≡ truncate_of after from words₀
 
+-- kept: docs/PORT.md names it, and `going_last`
+pub going : (after from : ℕ) (words : List ℕ) → Going after from words from words
+going after from words = record { fuel = after - from; enough = omega arith; same = refl }
+
 module _ {after from : ℕ} {words₀ : List ℕ} {start : ℕ} {words : List ℕ} (g : Going after from words₀ start words) where
   -- the word that was looked at is the first, and so are its bits
   pub first_word : {t : Bool} (i left : ℕ) → t ≡ all_noted (get_or words i 0) (min 64 left) → i ≡ 0 → left ≡ after - start
@@ -112,3 +116,8 @@ module _ {after from : ℕ} {words₀ : List ℕ} {start : ℕ} {words : List �
   -- more than 64 ids remain
   pub going_more : 64 < after - start → all_noted (get_or words 0 0) (next after start) ≡ true → Going after from words₀ (start + 64) (shifted words)
   going_more h e = going_on 64 (shifted words) (omega arith) (rw (lt-ltb 64 (after - start) h)) (omega arith) e
+
+-- no more than 64 ids remain
+pub going_last : {after from : ℕ} {words₀ : List ℕ} {start : ℕ} {words : List ℕ} → Going after from words₀ start words → start < after → after - start ≤ 64
+    → all_noted (get_or words 0 0) (next after start) ≡ true → truncated after words ≡ truncate_of after from words₀
+going_last {after} {start = start} {words = words} g l h e = sym (rounds_last g.fuel after start words l h g.enough (sym e)) ∙ g.same

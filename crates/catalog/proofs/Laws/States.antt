@@ -1,9 +1,12 @@
 -- A state by its four numbers, and the answers of taking an id and of raising the ceiling. Assumes nothing.
-use Prim.Native.Nat.{ℕ, ◌+◌, ◌^◌, ◌≤◌, ◌<◌}
+use Prim.Native.Nat.{ℕ, ◌+◌, ◌-◌, ◌^◌, ◌≤◌, ◌<◌}
 use mathlib.Core.Path.{◌≡◌}
 use mathlib.Core.Bool.{true, false, ◌||◌}
+use mathlib.Core.Logic.{⊎_elim}
+use native.Mathlib.Omega.{arith}
 use lib.Dec.{eqb, ltb}
 use borrow.Author.Tests.{eq-eqb, ne_eqb, lt-ltb, le-ltb, ltb-false}
+use Rattle.refusal.proofs.Cases.{side}
 use Rattle.catalog.specs.State.{state_of, top_id, taken, refused, take_of}
 use Rattle.catalog.specs.Raise.{raised, refused as unraised, bad_step, raise_of}
 use Rattle.catalog.specs.declared.state.State.{State}
@@ -36,6 +39,14 @@ module _ (st : State) where
 -- ---- raising the ceiling
 
 module _ (ceiling step : ℕ) where
+  -- the test of the sum of a step that is 1 or more, by what is left above the ceiling
+  pub step_sum : 1 ≤ step → step ≤ 2 ^ 32 → (room : ℕ) → room ≡ top_id - ceiling → ceiling ≤ top_id → ltb room step ≡ bad_step ceiling step
+  unfolding bad_step
+  step_sum some l room e most = rw (e, ne_eqb step 0 (λ z. omega arith), le-ltb (2 ^ 32) step l) (⊎_elim
+      (λ a. rw (lt-ltb (top_id - ceiling) step (omega arith), lt-ltb top_id (ceiling + step) a))
+      (λ a. rw (le-ltb (top_id - ceiling) step (omega arith), le-ltb top_id (ceiling + step) a))
+      (side top_id (ceiling + step)))
+
   -- a step that is not refused can be added
   pub step_fits : bad_step ceiling step ≡ false → ceiling + step ≤ top_id
   unfolding bad_step

@@ -5,7 +5,7 @@ use mathlib.Core.Bool.{Bool, true, false, not, ◌||◌, or-true}
 use mathlib.Core.Logic.{⊎_elim}
 use mathlib.Core.List.{List}
 use native.Mathlib.Omega.{arith}
-use borrow.Author.Tests.{ltb-false, eqb-true, not-false, eq-eqb, ne_eqb}
+use borrow.Author.Tests.{ltb-false, eqb-true, not-false, lt-ltb, eq-eqb, ne_eqb}
 use Rattle.std.proofs.Common.{MatchBool}
 use lib.Dec.{ltb, eqb}
 use lib.ListN.{length, get_or, length-take, length-drop}
@@ -60,6 +60,11 @@ module _ (ids ends bytes : List ℕ) where
   unfolding bad_batch bad_end
   batch_says same f g r e = rw (eq-eqb (length ids) (length ends) same) (some_says (bad_end ends bytes) (length ends) f g r e)
 
+  -- kept: docs/PORT.md names it, and `large_data_lem`
+  pub bad_end_lem : length ids ≡ length ends → (j : ℕ) → j < length ends → bad_end ends bytes j ≡ true → bad_batch ids ends bytes ≡ true
+  unfolding bad_batch
+  bad_end_lem same j l e = rw (eq-eqb (length ids) (length ends) same, some_found (bad_end ends bytes) (length ends) j l e)
+
 -- an entry's data lies in the batch data
 pub record DataLies (ends bytes : List ℕ) (j : ℕ) : Type 0 where
   pub above : before ends j ≤ get_or ends j 0
@@ -83,6 +88,10 @@ module _ (ids ends bytes : List ℕ) (good : bad_batch ids ends bytes ≡ false)
       record { above = a; inside = b; size = simp (length-take, length-drop) (omega arith) }
 
 -- ---- 16
+
+pub large_data_lem : (ends bytes : List ℕ) (j : ℕ) → j < length ends → data_end < length (entry_data ends bytes j) → some_large ends bytes ≡ true
+unfolding some_large large_data
+large_data_lem ends bytes j l a = some_found (large_data ends bytes) (length ends) j l (lt-ltb data_end (length (entry_data ends bytes j)) a)
 
 module _ (ids ends bytes : List ℕ) (good : bad_batch ids ends bytes ≡ false) where
   -- whether the data of entry j is too long, as the code tests it

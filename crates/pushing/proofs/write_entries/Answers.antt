@@ -5,6 +5,7 @@ use Prim.Native.Nat.{◌≤◌}
 use lib.ListN.{length}
 use Rattle.std.specs.Iterator.Adapters.{enumerate_source, zip_first}
 use Rattle.std.specs.Slice.Iter.{iter_rest}
+use Rattle.std.proofs.lemmas.List.{take_all}
 use Rattle.std.proofs.lemmas.Slice.Zip.{either_empty_from_Zip}
 use Rattle.pushing.specs.Push.{pushing, none}
 use Rattle.pushing.proofs.Laws.Entries.{entries_begin, data_inside, entries_refused, entries_again, entries_end}
@@ -22,7 +23,7 @@ pub loop-written-init : goal.loop-written-init
 loop-written-init c =
     let pairs = ap enumerate_source c.into_iter-written-iterator.ensures.into_iter_gives ∙ c.enumerate-written-items.ensures.source in
     let ids = ap (λ z. iter_rest (zip_first z)) pairs ∙ ap iter_rest c.zip.ensures.first ∙ c.iter.ensures.rest in
-    entries_begin _ _ c.args.batch.ids.now _ _ _ _ _ c.requires ids (cc) (cc)
+    entries_begin _ _ c.args.batch.ids.now _ _ _ _ _ c.requires (rw ids (grind (arith, take_all))) (cc) (cc)
 
 pub slice_bounds-write_in_turn-count : goal.slice_bounds-write_in_turn-count
 slice_bounds-write_in_turn-count c = (lies (goal.at.slice_bounds-write_in_turn-count c).In-Some).0

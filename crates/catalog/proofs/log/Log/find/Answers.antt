@@ -3,7 +3,7 @@ use native.Mathlib.Omega.{arith}
 use Rattle.catalog.proofs.Laws.Bounds.{is_log}
 use Rattle.catalog.proofs.log.Log.find.Goals as goal
 
-pub search-requires : goal.search-requires
-search-requires c =
+pub seek-requires : goal.seek-requires
+seek-requires c =
     let log = is_log _ _ c.in_ok-log.ensures in
-    (omega arith, omega arith, omega (arith, log.long, log.good.fits.small, log.good.fits.inside))
+    omega (arith, log.long, log.good.fits.small, log.good.fits.inside)

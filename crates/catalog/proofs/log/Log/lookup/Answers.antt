@@ -1,19 +1,25 @@
 -- `Log::lookup` meets its contract: what is found lies in the log. Assumes nothing.
-use mathlib.Core.Path.{◌≡◌, refl, sym}
+use mathlib.Core.Path.{◌≡◌, refl, sym, ◌∙◌}
 use native.Mathlib.Omega.{arith}
 use Prim.Native.Nat.{ℕ, ◌+◌, ◌/◌, ◌%◌, ◌≤◌}
 use lib.Seq.{length-take-le}
 use Rattle.page.specs.Size.{page_size, id_size, pages_for_data, page_count}
 use Rattle.page.proofs.Counting.{pages_some}
 use Rattle.catalog.specs.Lookup.{found, find_of}
-use Rattle.catalog.proofs.Laws.Bounds.{is_log}
+use Rattle.catalog.proofs.Laws.Bounds.{is_log, not_bad}
+use Rattle.catalog.proofs.Laws.Lookup.Tests.{find_in}
 use Rattle.catalog.proofs.Laws.Lookup.Positions.{found_whole}
 use Rattle.catalog.proofs.Laws.Lookup.Handing.{data_within, found_small, found_put}
 use Rattle.catalog.proofs.log.Log.lookup.Goals as goal
 use Rattle.catalog.proofs.log.Log.lookup.Goals.{In-Found}
 
+pub seek-requires : goal.seek-requires
+seek-requires c = let log = is_log _ _ c.in_ok-log.ensures in omega (arith, log.long, log.good.fits.small, log.good.fits.inside)
+
 is_found : (c : In-Found) → find_of c.args.self.store.now c.args.self.state c.args.id ≡ found c.in-Found.position c.in-Found.length
-is_found c = sym (rw c.in-Found.is at c.in_ok-look.ensures)
+is_found c =
+    let log = is_log _ _ c.in_ok-log.ensures in
+    find_in _ _ _ (not_bad _ _ log.good) ∙ sym (rw (c.in-Found.is, log.is) at c.in_ok-look.ensures)
 
 -- its position is that of a page
 at_page : (c : In-Found) → c.in-Found.position % page_size ≡ 0
