@@ -7,11 +7,11 @@ pub loop-i-init : goal.loop-i-init
 loop-i-init c = (omega arith, sym (only_whole _ _ _ (omega arith)), omega arith)
 
 pub loop-i-preserved : goal.loop-i-preserved
-loop-i-preserved c =
-    ( omega arith
-    , one_word_cleared _ _ _ _ _ _ c.loop-i.invariant.1 (omega arith) (omega (arith, c.told-words)) c.loop-i.invariant.2 c.mask.ensures
-    , omega arith
-    )
+loop-i-preserved c = (
+  omega arith,
+  one_word_cleared _ _ _ _ _ _ c.loop-i.invariant.1 (omega arith) (omega (arith, c.told-words)) c.loop-i.invariant.2 c.mask.ensures,
+  omega arith,
+)
 
 pub returns : goal.returns
 returns c = all_cleared _ _ _ _ _ c.loop-i.invariant.1 (omega arith) (omega arith)
