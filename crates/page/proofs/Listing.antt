@@ -9,6 +9,10 @@ use lib.ListN.{length, get_or, set, drop, length-append, get_or-append}
 use lib.Seq.{set_at, get_or_at, drop-cons, ext_get_or, append_snoc}
 use Rattle.page.specs.Tab.{tab}
 
+-- lists that begin with the same value and go on alike
+pub cons_same : {a b : ℕ} {l m : List ℕ} → a ≡ b → l ≡ m → ◌≡◌ {A = List ℕ} (a ∷ l) (b ∷ m)
+cons_same e f = cc
+
 pub length_tab : (f : ℕ → ℕ) (n : ℕ) → length (tab f n) ≡ n
 length_tab f zero = refl
 length_tab f (suc n) = simp (length-append, length_tab f n, add-one)

@@ -30,7 +30,7 @@ pub(crate) fn forget(words: &mut [u64; 64], from: u64, count: usize)
     ensures { words.new ≡ only from count words.old }
 {
     let first = (from / 64) as usize;
-    // carried, not made of i: after the first word none stay, and a mask made anew for each of 64 words costs a turn each
+    // carried and not made of i: after the first word no bit stays, so that the rest is cleared at once
     let mut bits = from % 64;
     for i in first..count {
         words[i] &= mask(bits);
