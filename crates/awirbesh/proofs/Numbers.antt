@@ -1,7 +1,7 @@
 -- What stands in an answer's numbers, each with the equation that it has to meet. Assumes nothing.
 use Prim.Native.Nat.{ℕ}
-use mathlib.Core.Path.{◌≡◌}
-use Rattle.std.specs.Prelude.{Option, None, Some, MatchOption}
+use mathlib.Core.Path.{◌≡◌, refl}
+use Rattle.std.specs.Prelude.{Option, None, Some}
 use Rattle.refusal.specs.Refusal.{number_of}
 use Rattle.refusal.specs.declared.Refusal.{Refusal}
 use Rattle.catalog.specs.Lookup.{found}
@@ -43,9 +43,10 @@ pub reason_is : (pushed : Pushed) (number : ℕ) → number ≡ reason_number (p
 reason_is pushed number e = rw e
 
 -- and that is the refusal's, or 0 for none
-pub reason_by : (reason : Option Refusal) (number : ℕ) → MatchOption reason (number ≡ 0) (λ r. number ≡ number_of r) → number ≡ reason_number (paper_reason reason)
-reason_by None number e = e
-reason_by (Some r) number e = e
+pub reason_by : (reason : Option Refusal) (number : ℕ) → (reason ≡ None → number ≡ 0) → ((r : Refusal) → reason ≡ Some r → number ≡ number_of r)
+    → number ≡ reason_number (paper_reason reason)
+reason_by None number e f = e refl
+reason_by (Some r) number e f = f r refl
 
 -- a refused take has the state given, and so has a refused raising
 abbrev numbers_of : ℕ → ℕ → ℕ → ℕ → StateNumbers
